@@ -1,0 +1,32 @@
+mod check;
+mod coded;
+mod commuting;
+mod pair;
+mod plain;
+mod refusal;
+#[cfg(test)]
+mod tests;
+mod weight;
+mod wheel;
+
+pub use check::Check;
+pub use check::CheckCoded;
+pub use check::CheckCommuting;
+pub use check::CheckWeight;
+pub use coded::Coded;
+pub use commuting::Commuting;
+pub use pair::Pair;
+pub use pair::PairCommuting;
+pub use pair::PairWeight;
+pub use plain::Plain;
+pub use plain::PlainCoded;
+pub use plain::PlainCommuting;
+pub use plain::PlainWeight;
+pub use refusal::Refusal;
+pub use refusal::RefusalDebug;
+pub use refusal::RefusalPartialEq;
+pub use weight::Weight;
+pub use wheel::Wheel;
+pub use wheel::WheelCoded;
+pub use wheel::WheelCommuting;
+pub use wheel::WheelWeight;
