@@ -1,5 +1,6 @@
 -- What a refusal tells: a number, and the values that go with it. Assumes nothing.
 use mathlib.Core.List.{List, [], _∷_}
+use mathlib.Core.Bool.{Bool, cond}
 use Prim.Native.Nat.{ℕ}
 use Rattle.std.specs.declared.option.Option.{Option}
 use Rattle.std.specs.declared.option.Option.the-variants.{Some, None}
@@ -36,6 +37,20 @@ told UnequalLetters = bare 9
 abbrev pub outcome : {X : Type 0} → Result X Refusal → Result X Told
 outcome (Ok x) = Ok x
 outcome (Err e) = Err (told e)
+
+-- the same, with the value seen through f
+abbrev pub outcome-as : {X Y : Type 0} → (X → Y) → Result X Refusal → Result Y Told
+outcome-as f (Ok x) = Ok (f x)
+outcome-as f (Err e) = Err (told e)
+
+-- the checks of a call, in order: the refusal of that number where the test fails, else what the later checks find
+abbrev pub unless : Bool → ℕ → Option Told → Option Told
+unless b n rest = cond b rest (Some (bare n))
+
+-- the answer of a call that meets a refusal or none
+abbrev pub judged : {X : Type 0} → Option Told → X → Result X Told
+judged None x = Ok x
+judged (Some t) x = Err t
 
 -- the value where there is one, else a refusal
 abbrev pub given : {X : Type 0} → Told → Option X → Result X Told

@@ -1,0 +1,5 @@
+pub mod Table
+pub mod Call
+pub mod Book
+pub mod Sheet
+pub mod Held
