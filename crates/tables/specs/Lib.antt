@@ -3,3 +3,5 @@ pub mod Call
 pub mod Book
 pub mod Sheet
 pub mod Held
+pub mod Sketch
+pub mod InStep
