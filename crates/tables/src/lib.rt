@@ -3,9 +3,11 @@ mod call;
 mod memory;
 mod sheet;
 mod source;
+mod words;
 
 pub use book::Book;
 pub use book::make;
 pub use call::Call;
 pub use sheet::Sheet;
 pub use source::Source;
+pub use words::weigh;
