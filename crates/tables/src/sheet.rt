@@ -12,7 +12,7 @@ use weights::Refusal;
 use weights::Weight;
 
 // A table that three memories hold in the layout of a book. Each of its counts and lengths is checked where an arc is read.
-#[derive(Clone, Copy)]
+#[derive(Drop)]
 pub struct Sheet<'a, W> {
     pub(crate) targets: &'a [u16],
     pub(crate) weights: &'a [W],

@@ -1,0 +1,20 @@
+use weights::Refusal;
+
+// Where a draft file was refused.
+#[derive(Clone, Copy, PartialEq, Eq, Debug)]
+pub enum Layer {
+    // the bytes of a field
+    File,
+    // the code of a weight
+    Weight,
+    // the call on the book
+    Book,
+}
+
+// Why and where the reading of a draft file ended: the offset is that of the field's tag.
+#[derive(Clone, Copy)]
+pub struct Fault {
+    pub layer: Layer,
+    pub refusal: Refusal,
+    pub offset: usize,
+}

@@ -1,0 +1,5 @@
+mod fault;
+mod field;
+
+pub use fault::Fault;
+pub use fault::Layer;
