@@ -9,15 +9,11 @@ use Rattle.std.specs.declared.option.Option.{Option}
 use Rattle.std.specs.declared.option.Option.the-variants.{Some, None}
 use Rattle.std.specs.declared.result.Result.{Result}
 use Rattle.std.specs.declared.result.Result.the-variants.{Ok, Err}
+use Rattle.weights.specs.Codes.{Codes}
 use Rattle.tables.specs.declared.call.Call.{Call}
 use Rattle.tables.specs.declared.call.Call.the-variants.{Rule, State, Arc, Start}
 use Rattle.drafts.specs.Fault.{Blame, malformed, uncoded}
 use Rattle.drafts.specs.declared.field.Field.{Field}
-
--- what the codes of a kind are: its number in files, and the element of a code
-pub record Codes (W : Type 0) : Type 0 where
-  pub number : ℕ
-  pub element : ℕ → Option W
 
 -- a number of two bytes
 abbrev pub two : ℕ → ℕ → ℕ
@@ -27,10 +23,15 @@ two high low = high * 256 + low
 abbrev pub good : {W : Type 0} → ℕ → Bool → Call W → ℕ → Result (Field W) Blame
 good o b k n = cond b (Ok (record { call = k; length = n })) (Err (malformed o))
 
+-- the element that a code makes, if any, for a field at offset o
+abbrev pub coded : {W : Type 0} → ℕ → Option W → Result W Blame
+coded o (Some w) = Ok w
+coded o None = Err (uncoded o)
+
 -- a field whose call has a weight, given by a code
-abbrev pub weighted : {W : Type 0} → ℕ → Option W → (W → Call W) → ℕ → Result (Field W) Blame
-weighted o (Some w) f n = Ok (record { call = f w; length = n })
-weighted o None f n = Err (uncoded o)
+abbrev pub weighted : {W : Type 0} → Result W Blame → (W → Call W) → ℕ → Result (Field W) Blame
+weighted (Ok w) f n = Ok (record { call = f w; length = n })
+weighted (Err b) f n = Err b
 
 -- the content of a field whose length says n, at offset o: a head is the kind and the letters
 abbrev pub head-field : {W : Type 0} → Codes W → ℕ → ℕ → List ℕ → Result (Field W) Blame
@@ -45,7 +46,7 @@ state-field o n xs = good o (eqb n 1 && (leb 1 (length xs) && leb (getD xs 0 0) 
 abbrev pub arc-field : {W : Type 0} → Codes W → ℕ → ℕ → List ℕ → Result (Field W) Blame
 arc-field k o n xs =
     cond (eqb n 7 && leb 7 (length xs))
-    (weighted o (k .element (two (getD xs 5 0) (getD xs 6 0)))
+    (weighted (coded o (k .element (two (getD xs 5 0) (getD xs 6 0))))
     (λ w. Arc (two (getD xs 0 0) (getD xs 1 0)) (getD xs 2 0) (two (getD xs 3 0) (getD xs 4 0)) w) 10)
     (Err (malformed o))
 
@@ -53,7 +54,7 @@ arc-field k o n xs =
 abbrev pub start-field : {W : Type 0} → Codes W → ℕ → ℕ → List ℕ → Result (Field W) Blame
 start-field k o n xs =
     cond (eqb n 4 && leb 4 (length xs))
-    (weighted o (k .element (two (getD xs 2 0) (getD xs 3 0))) (λ w. Start (two (getD xs 0 0) (getD xs 1 0)) w) 7)
+    (weighted (coded o (k .element (two (getD xs 2 0) (getD xs 3 0)))) (λ w. Start (two (getD xs 0 0) (getD xs 1 0)) w) 7)
     (Err (malformed o))
 
 -- a field after the head, by its tag

@@ -1,4 +1,4 @@
-ghost use Rattle.weights.specs.Codes.{check-element};
+ghost use Rattle.weights.specs.Codes.{check-codes};
 ghost use mathlib.Core.Path.{_≡_};
 ghost use Prim.Native.Nat.{_<_, _%_};
 ghost use Rattle.weights.specs.Check.{product, square-times, power-255, number-of, check-kind};
@@ -79,11 +79,7 @@ pub impl Commuting for Check as CheckCommuting {
 }
 
 pub impl Coded for Check as CheckCoded {
-    ghost number = { 1 };
-
-    ghost element = { check-element };
-
-    ghost codeof = { λ c. number-of (c .0) };
+    ghost codes = { check-codes };
 
     fn kind_number() -> u8 {
         1

@@ -1,4 +1,4 @@
-ghost use Rattle.weights.specs.Codes.{plain-element};
+ghost use Rattle.weights.specs.Codes.{plain-codes};
 ghost use Rattle.weights.specs.Plain.{plain-kind};
 use crate::coded::Coded;
 use crate::commuting::Commuting;
@@ -34,11 +34,7 @@ pub impl Commuting for Plain as PlainCommuting {
 }
 
 pub impl Coded for Plain as PlainCoded {
-    ghost number = { 0 };
-
-    ghost element = { plain-element };
-
-    ghost codeof = { λ _. 0 };
+    ghost codes = { plain-codes };
 
     fn kind_number() -> u8 {
         0

@@ -1,5 +1,5 @@
 ghost use Prim.Native.Nat.{_%_};
-ghost use Rattle.weights.specs.Codes.{wheel-element};
+ghost use Rattle.weights.specs.Codes.{wheel-codes};
 ghost use Rattle.weights.specs.Wheel.{wheel-kind};
 use crate::coded::Coded;
 use crate::commuting::Commuting;
@@ -38,11 +38,7 @@ pub impl Commuting for Wheel as WheelCommuting {
 }
 
 pub impl Coded for Wheel as WheelCoded {
-    ghost number = { 2 };
-
-    ghost element = { wheel-element };
-
-    ghost codeof = { λ w. w .0 % 720 };
+    ghost codes = { wheel-codes };
 
     fn kind_number() -> u8 {
         2
