@@ -1,4 +1,6 @@
 use weights::Refusal;
+use weights::RefusalDebug;
+use weights::RefusalPartialEq;
 
 // Where a draft file was refused.
 #[derive(Clone, Copy, PartialEq, Eq, Debug)]
@@ -12,7 +14,7 @@ pub enum Layer {
 }
 
 // Why and where the reading of a draft file ended: the offset is that of the field's tag.
-#[derive(Clone, Copy)]
+#[derive(Clone, Copy, PartialEq, Eq, Debug)]
 pub struct Fault {
     pub layer: Layer,
     pub refusal: Refusal,

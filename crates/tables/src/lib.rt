@@ -11,5 +11,6 @@ pub use book::make;
 pub use call::Call;
 pub use call::CallClone;
 pub use sheet::Sheet;
+pub use sheet::SheetSource;
 pub use source::Source;
 pub use words::weigh;

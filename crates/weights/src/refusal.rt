@@ -1,4 +1,5 @@
 ghost use mathlib.Core.Path.{_≡_};
+ghost use Rattle.std.specs.Vec.{listOf};
 ghost use Rattle.weights.specs.Refusal.{told};
 
 // Why a call was not taken. Each has its number; `told` in specs/ lists them.
@@ -42,6 +43,16 @@ impl Refusal {
             Refusal::BadField => 7,
             Refusal::StateCount => 8,
             Refusal::UnequalLetters => 9,
+        }
+    }
+
+    // The index that goes with the refusal, if one does.
+    pub fn index(self) -> Option<usize>
+        ensures { λ r. ⌜ listOf r ≡ told self .values ⌝ }
+    {
+        match self {
+            Refusal::NoLetterAt(index) => Some(index),
+            _ => None,
         }
     }
 }

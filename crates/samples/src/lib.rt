@@ -1,0 +1,7 @@
+// Examples of the library in use, each refusal among them. All of it is tests.
+#[cfg(test)]
+mod books;
+#[cfg(test)]
+mod files;
+#[cfg(test)]
+mod sheets;
