@@ -113,14 +113,25 @@ product-unit a b ta tb =
     (cases-lt 0 (product a b)))
     (product-below a b)
 
+-- the number that the byte b stands for: b itself, and 256 for 0
+abbrev pub number-of : ℕ → ℕ
+number-of b = (b + 255) % 256 + 1
+
+pub number-unit : (b : ℕ) → is-unit (number-of b) ≡ true
+number-unit b = unit-from (number-of b) (omega arith) (omega arith)
+
+-- the residue that the byte b stands for
+abbrev pub residue-of : ℕ → Residue
+residue-of b = record { at = number-of b; ok = number-unit b }
+
+abbrev pub unit : Residue
+unit = residue-of 1
+
 abbrev pub times : Residue → Residue → Residue
 times x y = record { at = product (x .at) (y .at); ok = product-unit (x .at) (y .at) (x .ok) (y .ok) }
 
 abbrev pub inverse : Residue → Residue
 inverse x = record { at = power-255 (x .at); ok = inverse-of (x .at) (x .ok) .0 }
-
-abbrev pub unit : Residue
-unit = record { at = 1; ok = refl }
 
 pub times-assoc : (x y z : Residue) → times (times x y) z ≡ times x (times y z)
 times-assoc x y z = chosen-path _ _ (product-assoc (x .at) (y .at) (z .at))
@@ -147,12 +158,5 @@ units-257 = record {
 pub units-commute : Commutes units-257
 units-commute x y = chosen-path _ _ (product-comm (x .at) (y .at))
 
--- the number that the byte b stands for: b itself, and 256 for 0
-abbrev pub number-of : ℕ → ℕ
-number-of b = (b + 255) % 256 + 1
-
-pub number-unit : (b : ℕ) → is-unit (number-of b) ≡ true
-number-unit b = unit-from (number-of b) (omega arith) (omega arith)
-
 abbrev pub check-kind : Kind Check
-check-kind = record { group = units-257; mean = λ c. record { at = number-of (c .0); ok = number-unit (c .0) } }
+check-kind = record { group = units-257; mean = λ c. residue-of (c .0) }

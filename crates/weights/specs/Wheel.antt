@@ -58,6 +58,9 @@ module _ (k : ℕ) (pos : 0 < k) where
   pub places-commute : Commutes places
   places-commute x y = chosen-path _ _ (ap (λ n. n % k) (add-comm (x .at) (y .at)))
 
--- the wheel of 720 places: an element means its number modulo 720
+-- the place of a number on the wheel of 720 places, which an element means
+abbrev pub wheel-place : ℕ → Place 720
+wheel-place n = place 720 (lit< tt) n
+
 abbrev pub wheel-kind : Kind Wheel
-wheel-kind = record { group = places 720 (lit< tt); mean = λ w. place 720 (lit< tt) (w .0) }
+wheel-kind = record { group = places 720 (lit< tt); mean = λ w. wheel-place (w .0) }

@@ -1,7 +1,8 @@
 ghost use Rattle.weights.specs.Codes.{check-codes};
 ghost use mathlib.Core.Path.{_≡_};
+ghost use Rattle.std.specs.Orderings.{Decides};
 ghost use Prim.Native.Nat.{_<_, _%_};
-ghost use Rattle.weights.specs.Check.{product, square-times, power-255, number-of, check-kind};
+ghost use Rattle.weights.specs.Check.{product, square-times, power-255, number-of, residue-of, times, inverse, check-kind};
 use crate::coded::Coded;
 use crate::commuting::Commuting;
 use crate::refusal::Refusal;
@@ -54,6 +55,27 @@ fn power_255_mod(x: u16) -> u16
     square_times_mod(x, p127)
 }
 
+// The product of the numbers that two bytes stand for, as a byte.
+fn product_byte(a: Check, b: Check) -> Check
+    ensures { λ r. ⌜ residue-of (r .0) ≡ times (residue-of (a .0)) (residue-of (b .0)) ⌝ }
+{
+    stored(product_mod(a.number(), b.number()))
+}
+
+// The inverse of the number that a byte stands for, as a byte.
+fn inverse_byte(a: Check) -> Check
+    ensures { λ r. ⌜ residue-of (r .0) ≡ inverse (residue-of (a .0)) ⌝ }
+{
+    stored(power_255_mod(a.number()))
+}
+
+// Whether two bytes stand for one number.
+fn same_byte(a: u8, b: u8) -> bool
+    ensures { λ r. ⌜ Decides r (residue-of a ≡ residue-of b) ⌝ }
+{
+    a == b
+}
+
 pub impl Weight for Check as CheckWeight {
     ghost kind = { check-kind };
 
@@ -62,15 +84,15 @@ pub impl Weight for Check as CheckWeight {
     }
 
     fn times(self, right: Check) -> Check {
-        stored(product_mod(self.number(), right.number()))
+        product_byte(self, right)
     }
 
     fn inverse(self) -> Check {
-        stored(power_255_mod(self.number()))
+        inverse_byte(self)
     }
 
     fn same(self, other: Check) -> bool {
-        self.0 == other.0
+        same_byte(self.0, other.0)
     }
 }
 

@@ -1,6 +1,7 @@
-ghost use Prim.Native.Nat.{_%_};
+ghost use mathlib.Core.Path.{_≡_};
+ghost use Rattle.std.specs.Orderings.{Decides};
 ghost use Rattle.weights.specs.Codes.{wheel-codes};
-ghost use Rattle.weights.specs.Wheel.{wheel-kind};
+ghost use Rattle.weights.specs.Wheel.{wheel-kind, wheel-place};
 use crate::coded::Coded;
 use crate::commuting::Commuting;
 use crate::refusal::Refusal;
@@ -13,6 +14,13 @@ const PLACES: u16 = 720;
 #[derive(Clone, Copy)]
 pub struct Wheel(pub u16);
 
+// Whether two numbers are read as one place.
+fn same_place(a: u16, b: u16) -> bool
+    ensures { λ r. ⌜ Decides r (wheel-place a ≡ wheel-place b) ⌝ }
+{
+    a % PLACES == b % PLACES
+}
+
 pub impl Weight for Wheel as WheelWeight {
     ghost kind = { wheel-kind };
 
@@ -21,15 +29,15 @@ pub impl Weight for Wheel as WheelWeight {
     }
 
     fn times(self, right: Wheel) -> Wheel {
-        Wheel((self.0 % PLACES + right.0 % PLACES) % PLACES)
+        Wheel(self.0 % PLACES + right.0 % PLACES)
     }
 
     fn inverse(self) -> Wheel {
-        Wheel((PLACES - self.0 % PLACES) % PLACES)
+        Wheel(PLACES - self.0 % PLACES)
     }
 
     fn same(self, other: Wheel) -> bool {
-        self.0 % PLACES == other.0 % PLACES
+        same_place(self.0, other.0)
     }
 }
 

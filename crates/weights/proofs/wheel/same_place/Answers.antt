@@ -1,5 +1,5 @@
 use Rattle.weights.proofs.Numbers.{chosen-same}
-use Rattle.weights.proofs.wheel.WheelWeight.same.Needs as need
+use Rattle.weights.proofs.wheel.same_place.Needs as need
 
 pub returns : need.returns
 returns c = chosen-same _ _
