@@ -29,7 +29,7 @@ impl<'a, W: Weight> Book<'a, W> {
         ensures holds { λ r. ⌜ written r ≡ opened (now (targets .entry)) (now (weights .entry)) (now (marks .entry)) ⌝ }
         ensures lent { λ r. ⌜ Lent (targets .entry) (weights .entry) (marks .entry) r ⌝ }
     {
-        put(targets, 0, UNSET);
+        put(targets, 0, &UNSET);
         Book {
             targets,
             weights,
@@ -80,7 +80,8 @@ impl<'a, W: Weight> Book<'a, W> {
             return Err(Refusal::NoRoom);
         }
         clear(self.targets, arc_place(letters, count, 0), letters);
-        put(self.marks, count as usize, if accepting { 1 } else { 0 });
+        let mark = if accepting { 1 } else { 0 };
+        put(self.marks, count as usize, &mark);
         self.count = count + 1;
         Ok(())
     }
@@ -101,8 +102,8 @@ impl<'a, W: Weight> Book<'a, W> {
             return Err(Refusal::NoState);
         }
         let at = arc_place(self.letters, from, letter);
-        put(self.targets, at, to);
-        put(self.weights, at, weight);
+        put(self.targets, at, &to);
+        put(self.weights, at, &weight);
         Ok(())
     }
 
@@ -115,8 +116,8 @@ impl<'a, W: Weight> Book<'a, W> {
         if state >= self.count {
             return Err(Refusal::NoState);
         }
-        put(self.targets, 0, state);
-        put(self.weights, 0, weight);
+        put(self.targets, 0, &state);
+        put(self.weights, 0, &weight);
         Ok(())
     }
 

@@ -16,11 +16,11 @@ pub(crate) fn arc_place(letters: u8, state: u16, letter: u8) -> usize
 }
 
 // Writes a place, if it exists.
-pub(crate) fn put<T: Copy>(memory: &mut [T], at: usize, value: T)
-    ensures { λ _. ⌜ now (memory .exit) ≡ set (now (memory .entry)) at value ⌝ }
+pub(crate) fn put<T: Copy>(memory: &mut [T], at: usize, value: &T)
+    ensures { λ _. ⌜ now (memory .exit) ≡ set (now (memory .entry)) at (now (value .entry)) ⌝ }
 {
     if at < memory.len() {
-        memory[at] = value;
+        memory[at] = *value;
     }
 }
 
@@ -59,6 +59,6 @@ pub(crate) fn clear(targets: &mut [u16], from: usize, count: u8)
     ensures { λ _. ⌜ now (targets .exit) ≡ cleared (now (targets .entry)) from count ⌝ }
 {
     for i in 0..count {
-        put(targets, from + i as usize, UNSET);
+        put(targets, from + i as usize, &UNSET);
     }
 }
