@@ -3,5 +3,6 @@
 mod books;
 #[cfg(test)]
 mod files;
+mod owner;
 #[cfg(test)]
 mod sheets;
