@@ -1,5 +1,6 @@
 -- What a fault tells: the layer that refused, the refusal, and the offset of the field's tag. Assumes nothing.
-use mathlib.Core.Path.{_≡_}
+use mathlib.Core.List.{List}
+use lib.Chars.{codes}
 use Prim.Native.Nat.{ℕ}
 use Rattle.std.specs.declared.option.Option.{Option}
 use Rattle.std.specs.declared.option.Option.the-variants.{Some, None}
@@ -9,6 +10,12 @@ use Rattle.weights.specs.Refusal.{Told, told, bare}
 use Rattle.drafts.specs.declared.fault.Fault.{Fault}
 use Rattle.drafts.specs.declared.fault.Layer.{Layer}
 use Rattle.drafts.specs.declared.fault.Layer.the-variants.{File, Weight, Book}
+
+-- the word of each layer
+abbrev pub layer-name : Layer → List ℕ
+layer-name File = codes "file"
+layer-name Weight = codes "weight"
+layer-name Book = codes "book"
 
 pub record Blame : Type 0 where
   pub layer : Layer

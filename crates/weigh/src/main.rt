@@ -5,7 +5,6 @@ ghost use Rattle.std.specs.Vec.{made};
 
 mod words;
 
-use drafts::Layer;
 use drafts::read_draft;
 use std::alloc::AllocError;
 use std::alloc::Global;
@@ -33,14 +32,6 @@ use words::letters_of;
 const PLACES: usize = 1017;
 
 const MARKS: usize = 127;
-
-fn layer_name(layer: Layer) -> &'static str {
-    match layer {
-        Layer::File => "file",
-        Layer::Weight => "weight",
-        Layer::Book => "book",
-    }
-}
 
 // A memory of elements, all one.
 fn ones<W: Coded>(heap: Global, count: usize) -> Result<Vec<W>, AllocError>
@@ -108,7 +99,7 @@ fn build<W: Coded>(rt: &LibcRuntime, kind: &str, bytes: &[u8]) -> Result<(), Any
     match read {
         Ok(()) => print_sheet(rt, &sheet, true),
         Err(fault) => {
-            let layer = layer_name(fault.layer);
+            let layer = fault.layer.name();
             let number = fault.refusal.number();
             let offset = fault.offset;
             println!(
