@@ -3,6 +3,8 @@ use mathlib.Core.List.{List}
 use mathlib.Core.Bool.{Bool, cond}
 use Prim.Native.Nat.{ℕ, zero, suc, _+_, _*_}
 use lib.ListN.{length, set}
+use Rattle.std.specs.declared.result.Result.{Result}
+use Rattle.weights.specs.Refusal.{Told, judged}
 use Rattle.tables.specs.Call.{Size, verdict, if-taken}
 use Rattle.tables.specs.declared.call.Call.{Call}
 use Rattle.tables.specs.declared.call.Call.the-variants.{Rule, State, Arc, Start}
@@ -50,6 +52,10 @@ mark f = cond f 1 0
 -- a new book over three memories
 abbrev pub opened : {W : Type 0} → List ℕ → List W → List ℕ → Contents W
 opened ts ws ms = record { targets = set ts 0 unset; weights = ws; marks = ms; letters = 1; count = 0 }
+
+-- what a call answers
+abbrev pub answer-to : {W : Type 0} → Contents W → Call W → Result (Unit {0}) Told
+answer-to c k = judged (verdict (size-of c) k) tt
 
 -- what a call that is taken leaves
 abbrev pub taken : {W : Type 0} → Contents W → Call W → Contents W

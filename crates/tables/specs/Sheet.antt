@@ -9,11 +9,12 @@ use Rattle.std.specs.declared.option.Option.the-variants.{None}
 use lib.Dec.{eqb, ltb, leb}
 use lib.ListN.{getD}
 use Rattle.std.proofs.shelf.Tests.{cond-both, ltb-true}
+use Rattle.std.specs.declared.result.Result.{Result}
 use Rattle.weights.specs.Group.{Kind}
-use Rattle.weights.specs.Refusal.{Told, unless}
+use Rattle.weights.specs.Refusal.{Told, unless, judged}
 use Rattle.tables.specs.Table.{Table, Lawful}
 use Rattle.tables.specs.Call.{Size}
-use Rattle.tables.specs.Book.{Contents, place, unset}
+use Rattle.tables.specs.Book.{Contents, size-of, place, unset}
 
 -- the refusal that a sheet of those letters and states over memories of those lengths meets, if any
 abbrev pub sheet-verdict : Size → Option Told
@@ -24,6 +25,10 @@ sheet-verdict z =
     (leb (1 + z .count * z .letters) (z .targets)
     && (leb (1 + z .count * z .letters) (z .weights) && leb (z .count) (z .marks)))
     6 None))
+
+-- what making a sheet of those contents answers
+abbrev pub sheet-of : {W : Type 0} → Contents W → Result (Contents W) Told
+sheet-of c = judged (sheet-verdict (size-of c)) c
 
 -- the states that are drawn, at most 4095; the number is also that of the off state
 abbrev pub drawn : {W : Type 0} → Contents W → ℕ

@@ -66,6 +66,10 @@ drawn-on s (Start q w) =
 abbrev pub sketched : {W : Type 0} → Lengths → Sketch W → Call W → Sketch W
 sketched n s k = if-taken (verdict (sketch-size n s) k) (drawn-on s k) s
 
+-- the answer to a call
+abbrev pub sketch-answer : {W : Type 0} → Lengths → Sketch W → Call W → Result (Unit {0}) Told
+sketch-answer n s k = judged (verdict (sketch-size n s) k) tt
+
 -- the sketch of a list of calls, and the answers that they get, one after another
 abbrev pub sketch-of : {W : Type 0} → Lengths → Sketch W → List (Call W) → Sketch W
 sketch-of n s [] = s
@@ -73,7 +77,7 @@ sketch-of n s (k ∷ ks) = sketch-of n (sketched n s k) ks
 
 abbrev pub answers-of : {W : Type 0} → Lengths → Sketch W → List (Call W) → List (Result (Unit {0}) Told)
 answers-of n s [] = []
-answers-of n s (k ∷ ks) = judged (verdict (sketch-size n s) k) tt ∷ answers-of n (sketched n s k) ks
+answers-of n s (k ∷ ks) = sketch-answer n s k ∷ answers-of n (sketched n s k) ks
 
 -- where a link leads: what is not set leads to the off state, with weight one
 abbrev pub link-to : {W : Type 0} → ℕ → Option (Link W) → ℕ

@@ -6,9 +6,10 @@ use Prim.Native.Nat.{ℕ, suc, _≤_, _<_}
 use lib.Dec.{ltb}
 use Rattle.std.specs.declared.option.Option.{Option}
 use Rattle.std.specs.declared.option.Option.the-variants.{Some, None}
+use Rattle.std.specs.declared.result.Result.{Result}
 use Rattle.weights.specs.Group.{Group, Kind}
 use Rattle.weights.specs.Codes.{within}
-use Rattle.weights.specs.Refusal.{Told, indexed}
+use Rattle.weights.specs.Refusal.{Told, indexed, judged}
 
 -- States are numbered from 0, and so are letters. What is said of a state or a letter that the table lacks has no meaning.
 pub record Table (M : Type 0) : Type 0 where
@@ -65,6 +66,10 @@ no-letter-from s i (a ∷ w) = cond (ltb a s) (no-letter-from s (suc i) w) (Some
 -- the refusal that weighing a list of bytes meets, if any: 3 with the index of the first byte that is no letter
 abbrev pub word-verdict : ℕ → List ℕ → Option Told
 word-verdict s w = elim (no-letter-from s 0 w) [ Some i ↦ Some (indexed 3 i) | None ↦ None ]
+
+-- what weighing a list of bytes answers
+abbrev pub weighing : (G : Group) → Table (G .Mean) → List ℕ → Result (Option (G .Mean)) Told
+weighing G t w = judged (word-verdict (t .letters) w) (weight-of G t w)
 
 -- what an optional element means
 abbrev pub meant : {E : Type 0} (K : Kind E) → Option E → Option (K .group .Mean)

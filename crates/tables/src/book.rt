@@ -1,7 +1,6 @@
 ghost use mathlib.Core.Path.{_≡_};
-ghost use Rattle.weights.specs.Refusal.{outcome, judged};
-ghost use Rattle.tables.specs.Book.{opened, left-by, size-of};
-ghost use Rattle.tables.specs.Call.{verdict};
+ghost use Rattle.weights.specs.Refusal.{outcome};
+ghost use Rattle.tables.specs.Book.{opened, answer-to, left-by};
 ghost use Rattle.tables.specs.Held.{held, written, Lent, SameMemory};
 ghost use Rattle.tables.specs.declared.call.Call.the-variants.{Rule, State, Arc, Start};
 use crate::call::Call;
@@ -41,7 +40,7 @@ impl<'a, W: Weight> Book<'a, W> {
 
     // Sets the letters, while there are no states; 1 to 64, else refused by 1.
     pub fn rule(&mut self, letters: u8) -> Result<(), Refusal>
-        ensures answer { λ r. ⌜ outcome r ≡ judged (verdict {W = W} (size-of (written (now (self .entry)))) (Rule letters)) tt ⌝ }
+        ensures answer { λ r. ⌜ outcome r ≡ answer-to (written (now (self .entry))) (Rule letters) ⌝ }
         ensures after { λ _. ⌜ written (now (self .exit)) ≡ left-by (written (now (self .entry))) (Rule letters) ⌝ }
         ensures lent { λ _. ⌜ SameMemory (now (self .entry)) (now (self .exit)) ⌝ }
     {
@@ -60,7 +59,7 @@ impl<'a, W: Weight> Book<'a, W> {
 
     // Adds the next state, with no arc set. Refused by 5 where there are 4,095 states or a memory is too short for one more.
     pub fn state(&mut self, accepting: bool) -> Result<(), Refusal>
-        ensures answer { λ r. ⌜ outcome r ≡ judged (verdict {W = W} (size-of (written (now (self .entry)))) (State accepting)) tt ⌝ }
+        ensures answer { λ r. ⌜ outcome r ≡ answer-to (written (now (self .entry))) (State accepting) ⌝ }
         ensures after { λ _. ⌜ written (now (self .exit)) ≡ left-by (written (now (self .entry))) (State accepting) ⌝ }
         ensures lent { λ _. ⌜ SameMemory (now (self .entry)) (now (self .exit)) ⌝ }
     {
@@ -88,7 +87,7 @@ impl<'a, W: Weight> Book<'a, W> {
 
     // Sets one arc. Refused: a state that is not in the book by 2, a letter by 3, then a target that is not in the book by 2.
     pub fn arc(&mut self, from: u16, letter: u8, to: u16, weight: W) -> Result<(), Refusal>
-        ensures answer { λ r. ⌜ outcome r ≡ judged (verdict (size-of (written (now (self .entry)))) (Arc from letter to weight)) tt ⌝ }
+        ensures answer { λ r. ⌜ outcome r ≡ answer-to (written (now (self .entry))) (Arc from letter to weight) ⌝ }
         ensures after { λ _. ⌜ written (now (self .exit)) ≡ left-by (written (now (self .entry))) (Arc from letter to weight) ⌝ }
         ensures lent { λ _. ⌜ SameMemory (now (self .entry)) (now (self .exit)) ⌝ }
     {
@@ -109,7 +108,7 @@ impl<'a, W: Weight> Book<'a, W> {
 
     // Sets the start. Refused by 2 where the state is not in the book.
     pub fn start(&mut self, state: u16, weight: W) -> Result<(), Refusal>
-        ensures answer { λ r. ⌜ outcome r ≡ judged (verdict (size-of (written (now (self .entry)))) (Start state weight)) tt ⌝ }
+        ensures answer { λ r. ⌜ outcome r ≡ answer-to (written (now (self .entry))) (Start state weight) ⌝ }
         ensures after { λ _. ⌜ written (now (self .exit)) ≡ left-by (written (now (self .entry))) (Start state weight) ⌝ }
         ensures lent { λ _. ⌜ SameMemory (now (self .entry)) (now (self .exit)) ⌝ }
     {
@@ -144,7 +143,7 @@ impl<'a, W: Weight> Book<'a, W> {
 
 // Makes one call on the book.
 pub fn make<W: Weight>(book: &mut Book<'_, W>, call: Call<W>) -> Result<(), Refusal>
-    ensures answer { λ r. ⌜ outcome r ≡ judged (verdict (size-of (written (now (book .entry)))) call) tt ⌝ }
+    ensures answer { λ r. ⌜ outcome r ≡ answer-to (written (now (book .entry))) call ⌝ }
     ensures after { λ _. ⌜ written (now (book .exit)) ≡ left-by (written (now (book .entry))) call ⌝ }
     ensures lent { λ _. ⌜ SameMemory (now (book .entry)) (now (book .exit)) ⌝ }
 {

@@ -1,8 +1,8 @@
 ghost use mathlib.Core.Path.{_≡_};
-ghost use Rattle.weights.specs.Refusal.{outcome-as, judged};
-ghost use Rattle.tables.specs.Book.{laid, size-of};
+ghost use Rattle.weights.specs.Refusal.{outcome-as};
+ghost use Rattle.tables.specs.Book.{laid};
 ghost use Rattle.tables.specs.Held.{held};
-ghost use Rattle.tables.specs.Sheet.{sheet-verdict, drawn, width, led-to, led-by, sheet-table, sheet-lawful};
+ghost use Rattle.tables.specs.Sheet.{sheet-of, drawn, width, led-to, led-by, sheet-table, sheet-lawful};
 use crate::memory::arc_place;
 use crate::memory::element_in;
 use crate::memory::mark_in;
@@ -30,7 +30,7 @@ impl<'a, W: Weight> Sheet<'a, W> {
         states: u16,
         letters: u8,
     ) -> Result<Sheet<'a, W>, Refusal>
-        ensures { λ r. ⌜ outcome-as held r ≡ judged (sheet-verdict (size-of (laid (now (targets .entry)) (now (weights .entry)) (now (marks .entry)) letters states))) (laid (now (targets .entry)) (now (weights .entry)) (now (marks .entry)) letters states) ⌝ }
+        ensures { λ r. ⌜ outcome-as held r ≡ sheet-of (laid (now (targets .entry)) (now (weights .entry)) (now (marks .entry)) letters states) ⌝ }
     {
         if letters == 0 {
             return Err(Refusal::Letters);

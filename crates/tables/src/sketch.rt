@@ -2,12 +2,11 @@
 // sketch tells, and closed its table is the sketch's.
 ghost use lib.ListN.{length};
 ghost use mathlib.Core.Path.{_≡_};
-ghost use Rattle.weights.specs.Refusal.{outcome, judged};
-ghost use Rattle.tables.specs.Call.{verdict};
+ghost use Rattle.weights.specs.Refusal.{outcome};
 ghost use Rattle.tables.specs.Held.{held, written};
 ghost use Rattle.tables.specs.InStep.{InStep};
 ghost use Rattle.tables.specs.Sheet.{sheet-table};
-ghost use Rattle.tables.specs.Sketch.{Lengths, Sketch, blank, sketch-size, sketched, sketch-table};
+ghost use Rattle.tables.specs.Sketch.{Lengths, Sketch, blank, sketch-answer, sketched, sketch-table};
 use crate::book::Book;
 use crate::book::make;
 use crate::call::Call;
@@ -26,7 +25,7 @@ fn open_in_step<'a, W: Weight>(
 }
 
 fn make_in_step<W: Weight>(book: &mut Book<'_, W>, call: Call<W>) -> Result<(), Refusal>
-    ensures answer { λ r. ⌜ ((n : Lengths) (s : Sketch W) → InStep n s (written (now (book .entry))) → outcome r ≡ judged (verdict (sketch-size n s) call) tt) ⌝ }
+    ensures answer { λ r. ⌜ ((n : Lengths) (s : Sketch W) → InStep n s (written (now (book .entry))) → outcome r ≡ sketch-answer n s call) ⌝ }
     ensures after { λ _. ⌜ ((n : Lengths) (s : Sketch W) → InStep n s (written (now (book .entry))) → InStep n (sketched n s call) (written (now (book .exit)))) ⌝ }
 {
     make(book, call)

@@ -1,7 +1,7 @@
 ghost use mathlib.Core.Path.{_≡_};
 ghost use Rattle.std.specs.declared.option.Option.the-variants.{None};
-ghost use Rattle.weights.specs.Refusal.{outcome-as, judged};
-ghost use Rattle.tables.specs.Table.{no-letter-from, word-verdict, weight-of, meant};
+ghost use Rattle.weights.specs.Refusal.{outcome-as};
+ghost use Rattle.tables.specs.Table.{no-letter-from, weight-of, weighing, meant};
 use crate::source::Source;
 use weights::Refusal;
 use weights::Weight;
@@ -38,7 +38,7 @@ fn run<W: Weight, S: Source<W>>(source: &S, word: &[u8]) -> Option<W>
 
 // The weight of a word, or none; a byte that is no letter is refused by 3, with the index of the first such byte.
 pub fn weigh<W: Weight, S: Source<W>>(source: &S, word: &[u8]) -> Result<Option<W>, Refusal>
-    ensures { λ r. ⌜ outcome-as (meant (W·Weight .kind)) r ≡ judged (word-verdict (table (now (source .entry)) (W·Weight .kind) .letters) (now (word .entry))) (weight-of (W·Weight .kind .group) (table (now (source .entry)) (W·Weight .kind)) (now (word .entry))) ⌝ }
+    ensures { λ r. ⌜ outcome-as (meant (W·Weight .kind)) r ≡ weighing (W·Weight .kind .group) (table (now (source .entry)) (W·Weight .kind)) (now (word .entry)) ⌝ }
 {
     match first_no_letter(word, source.letters()) {
         Some(i) => Err(Refusal::NoLetterAt(i)),

@@ -1,8 +1,8 @@
-ghost use Rattle.weights.specs.Codes.{check-codes};
+ghost use Prim.Native.Nat.{_%_};
 ghost use mathlib.Core.Path.{_≡_};
 ghost use Rattle.std.specs.Orderings.{Decides};
-ghost use Prim.Native.Nat.{_<_, _%_};
 ghost use Rattle.weights.specs.Check.{product, square-times, power-255, number-of, residue-of, times, inverse, check-kind};
+ghost use Rattle.weights.specs.Codes.{check-codes};
 use crate::coded::Coded;
 use crate::commuting::Commuting;
 use crate::refusal::Refusal;
