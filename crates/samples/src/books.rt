@@ -71,20 +71,34 @@ fn arc_and_start_refuse_in_order() -> Result<(), Fail> {
     check_eq(Refusal::NoLetter.number(), 3)
 }
 
+// Two letters and one state over these memories.
+fn one_state(targets: &mut [u16], weights: &mut [Check], marks: &mut [u8]) -> Result<(), Refusal> {
+    let mut book = Book::open(targets, weights, marks);
+    book.rule(2)?;
+    book.state(true)
+}
+
 // A memory too short for one more state, each in turn.
 #[test]
 fn state_refuses_with_5() -> Result<(), Fail> {
-    let mut targets = [0u16; 4];
-    let mut weights = [Check(1); 4];
-    let mut marks = [0u8; 2];
-    let mut book = Book::open(&mut targets[0..2], &mut weights, &mut marks);
-    book.rule(2)?;
-    check_eq(book.state(true), Err(Refusal::NoRoom))?;
-    let mut book = Book::open(&mut targets, &mut weights[0..2], &mut marks);
-    book.rule(2)?;
-    check_eq(book.state(true), Err(Refusal::NoRoom))?;
-    let mut book = Book::open(&mut targets, &mut weights, &mut marks[0..0]);
-    check_eq(book.state(true), Err(Refusal::NoRoom))?;
+    let mut few = [0u16; 2];
+    let mut enough = [0u16; 3];
+    check_eq(
+        one_state(&mut enough, &mut [Check(1); 3], &mut [0; 1]),
+        Ok(()),
+    )?;
+    check_eq(
+        one_state(&mut few, &mut [Check(1); 3], &mut [0; 1]),
+        Err(Refusal::NoRoom),
+    )?;
+    check_eq(
+        one_state(&mut enough, &mut [Check(1); 2], &mut [0; 1]),
+        Err(Refusal::NoRoom),
+    )?;
+    check_eq(
+        one_state(&mut enough, &mut [Check(1); 3], &mut []),
+        Err(Refusal::NoRoom),
+    )?;
     check_eq(Refusal::NoRoom.number(), 5)
 }
 
