@@ -33,7 +33,7 @@ fn join(high: u8, low: u8) -> u16
 
 // The head: the kind and the letters.
 fn head<W: Coded>(offset: usize, length: u16, content: &[u8]) -> Result<Field<W>, Fault>
-    ensures { faulted result ≡ head_field W.Coded.codes offset length content.now }
+    ensures { faulted result ≡ head_field W.codes offset length content.now }
 {
     let [kind, letters, ..] = content else {
         return Err(bad_field(offset));
@@ -73,7 +73,7 @@ fn state<W: Coded>(offset: usize, length: u16, content: &[u8]) -> Result<Field<W
 
 // The element of a code, which a field at that offset has.
 fn weight_of<W: Coded>(offset: usize, code: u16) -> Result<W, Fault>
-    ensures { faulted result ≡ coded offset (W.Coded.codes.element code) }
+    ensures { faulted result ≡ coded offset (W.codes.element code) }
 {
     match W::from_code(code) {
         Ok(weight) => Ok(weight),
@@ -87,7 +87,7 @@ fn weight_of<W: Coded>(offset: usize, code: u16) -> Result<W, Fault>
 
 // An arc: a state, a letter, a target and a code.
 fn arc<W: Coded>(offset: usize, length: u16, content: &[u8]) -> Result<Field<W>, Fault>
-    ensures { faulted result ≡ arc_field W.Coded.codes offset length content.now }
+    ensures { faulted result ≡ arc_field W.codes offset length content.now }
 {
     let [q1, q0, letter, r1, r0, c1, c0, ..] = content else {
         return Err(bad_field(offset));
@@ -109,7 +109,7 @@ fn arc<W: Coded>(offset: usize, length: u16, content: &[u8]) -> Result<Field<W>,
 
 // A start: a state and a code.
 fn start<W: Coded>(offset: usize, length: u16, content: &[u8]) -> Result<Field<W>, Fault>
-    ensures { faulted result ≡ start_field W.Coded.codes offset length content.now }
+    ensures { faulted result ≡ start_field W.codes offset length content.now }
 {
     let [q1, q0, c1, c0, ..] = content else {
         return Err(bad_field(offset));
@@ -129,7 +129,7 @@ fn start<W: Coded>(offset: usize, length: u16, content: &[u8]) -> Result<Field<W
 
 // A field after the head, by its tag.
 fn later<W: Coded>(offset: usize, tag: u8, length: u16, content: &[u8]) -> Result<Field<W>, Fault>
-    ensures { faulted result ≡ later_field W.Coded.codes offset tag length content.now }
+    ensures { faulted result ≡ later_field W.codes offset tag length content.now }
 {
     match tag {
         2 => state(offset, length, content),
@@ -147,7 +147,7 @@ fn tagged<W: Coded>(
     length: u16,
     content: &[u8],
 ) -> Result<Field<W>, Fault>
-    ensures { faulted result ≡ tagged_field W.Coded.codes first offset tag length content.now }
+    ensures { faulted result ≡ tagged_field W.codes first offset tag length content.now }
 {
     if !first {
         return later(offset, tag, length, content);
@@ -164,7 +164,7 @@ pub(crate) fn read_field<W: Coded>(
     offset: usize,
     bytes: &[u8],
 ) -> Result<Field<W>, Fault>
-    ensures { faulted result ≡ field_at W.Coded.codes first offset bytes.now }
+    ensures { faulted result ≡ field_at W.codes first offset bytes.now }
 {
     let [tag, high, low, content @ ..] = bytes else {
         return Err(bad_field(offset));

@@ -11,7 +11,7 @@ use weights::Coded;
 // Reads the field at an offset and makes its call; the answer is the offset of the next.
 fn advance<W: Coded>(bytes: &[u8], offset: usize, book: &mut Book<'_, W>) -> Result<usize, Fault>
     requires { offset < length bytes.now }
-    ensures read { Advanced W.Coded.codes bytes.now offset (written book.old) (written book.new) result }
+    ensures read { Advanced W.codes bytes.now offset (written book.old) (written book.new) result }
     ensures lent { SameMemory book.old book.new }
 {
     let field = read_field(offset == 0, offset, &bytes[offset..])?;
@@ -27,8 +27,8 @@ fn advance<W: Coded>(bytes: &[u8], offset: usize, book: &mut Book<'_, W>) -> Res
 
 // Reads a draft file: makes the calls that it lists, up to its fault or the first that the book refuses.
 pub fn read_draft<W: Coded>(bytes: &[u8], book: &mut Book<'_, W>) -> Result<(), Fault>
-    ensures answer { faulted result ≡ ended (reading (written book.old) (listing W.Coded.codes bytes.now)).fault }
-    ensures after { written book.new ≡ (reading (written book.old) (listing W.Coded.codes bytes.now)).after }
+    ensures answer { faulted result ≡ ended (reading (written book.old) (listing W.codes bytes.now)).fault }
+    ensures after { written book.new ≡ (reading (written book.old) (listing W.codes bytes.now)).after }
     ensures lent { SameMemory book.old book.new }
 {
     if bytes.is_empty() {

@@ -24,7 +24,7 @@ fn low_byte(n: u16) -> u8
 
 // The head: the kind and the letters.
 fn head_field<W: Coded>(letters: u8) -> [u8; 5]
-    ensures { result ≡ field_of W.Coded.codes.number (Rule letters) }
+    ensures { result ≡ field_of W.codes.number (Rule letters) }
 {
     [1, 0, 2, W::kind_number(), letters]
 }
@@ -79,27 +79,27 @@ fn put_field(out: &mut [u8], at: usize, field: &[u8])
 
 // The code of an element, which is the code of its meaning.
 fn code_of<W: Coded>(weight: W) -> u16
-    ensures code { result ≡ code_for W.Weight.kind W.Coded.codes (W.Weight.kind.mean weight) }
-    ensures named { Named W.Weight.kind W.Coded.codes (W.Weight.kind.mean weight) }
+    ensures code { result ≡ code_for W.kind W.codes (W.kind.mean weight) }
+    ensures named { Named W.kind W.codes (W.kind.mean weight) }
 {
     weight.code()
 }
 
 // Writes one state.
 fn write_state<W: Coded, S: Source<W>>(source: &S, state: u16, out: &mut [u8], at: usize)
-    requires inside { state < (table source.now W.Weight.kind).states }
+    requires inside { state < (S.table source.now W.kind).states }
     requires room { at + 4 ≤ length out.old }
-    ensures { out.new ≡ over_from at (field_of W.Coded.codes.number (state_call W.Weight.kind W.Coded.codes (table source.now W.Weight.kind) state)) out.old }
+    ensures { out.new ≡ over_from at (field_of W.codes.number (state_call W.kind W.codes (S.table source.now W.kind) state)) out.old }
 {
     put_field(out, at, &state_field(source.is_final(state).unwrap()));
 }
 
 // Writes one arc, given by its number.
 fn write_arc<W: Coded, S: Source<W>>(source: &S, arc: usize, out: &mut [u8], at: usize)
-    requires inside { arc < arc_count (table source.now W.Weight.kind) }
+    requires inside { arc < arc_count (S.table source.now W.kind) }
     requires room { at + 10 ≤ length out.old }
-    ensures named { NamedArc W.Weight.kind W.Coded.codes (table source.now W.Weight.kind) arc }
-    ensures bytes { out.new ≡ over_from at (field_of W.Coded.codes.number (arc_call W.Weight.kind W.Coded.codes (table source.now W.Weight.kind) arc)) out.old }
+    ensures named { NamedArc W.kind W.codes (S.table source.now W.kind) arc }
+    ensures bytes { out.new ≡ over_from at (field_of W.codes.number (arc_call W.kind W.codes (S.table source.now W.kind) arc)) out.old }
 {
     let letters = source.letters() as usize;
     let from = (arc / letters) as u16;
@@ -111,8 +111,8 @@ fn write_arc<W: Coded, S: Source<W>>(source: &S, arc: usize, out: &mut [u8], at:
 
 // Writes the states.
 fn write_states<W: Coded, S: Source<W>>(source: &S, out: &mut [u8], at: usize)
-    requires { at + 4 * (table source.now W.Weight.kind).states ≤ length out.old }
-    ensures { out.new ≡ over_from at (states_bytes W.Weight.kind W.Coded.codes (table source.now W.Weight.kind) (table source.now W.Weight.kind).states) out.old }
+    requires { at + 4 * (S.table source.now W.kind).states ≤ length out.old }
+    ensures { out.new ≡ over_from at (states_bytes W.kind W.codes (S.table source.now W.kind) (S.table source.now W.kind).states) out.old }
 {
     for state in 0..source.states() {
         write_state(source, state, out, at + 4 * state as usize);
@@ -121,9 +121,9 @@ fn write_states<W: Coded, S: Source<W>>(source: &S, out: &mut [u8], at: usize)
 
 // Writes the arcs, by state and letter.
 fn write_arcs<W: Coded, S: Source<W>>(source: &S, out: &mut [u8], at: usize)
-    requires { at + 10 * arc_count (table source.now W.Weight.kind) ≤ length out.old }
-    ensures named { NamedBelow W.Weight.kind W.Coded.codes (table source.now W.Weight.kind) (arc_count (table source.now W.Weight.kind)) }
-    ensures bytes { out.new ≡ over_from at (arcs_bytes W.Weight.kind W.Coded.codes (table source.now W.Weight.kind) (arc_count (table source.now W.Weight.kind))) out.old }
+    requires { at + 10 * arc_count (S.table source.now W.kind) ≤ length out.old }
+    ensures named { NamedBelow W.kind W.codes (S.table source.now W.kind) (arc_count (S.table source.now W.kind)) }
+    ensures bytes { out.new ≡ over_from at (arcs_bytes W.kind W.codes (S.table source.now W.kind) (arc_count (S.table source.now W.kind))) out.old }
 {
     let arcs = source.states() as usize * source.letters() as usize;
     for arc in 0..arcs {
@@ -134,8 +134,8 @@ fn write_arcs<W: Coded, S: Source<W>>(source: &S, out: &mut [u8], at: usize)
 // Writes the start.
 fn write_start<W: Coded, S: Source<W>>(source: &S, out: &mut [u8], at: usize)
     requires { at + 7 ≤ length out.old }
-    ensures named { Named W.Weight.kind W.Coded.codes (table source.now W.Weight.kind).start_weight }
-    ensures bytes { out.new ≡ over_from at (field_of W.Coded.codes.number (start_call W.Weight.kind W.Coded.codes (table source.now W.Weight.kind))) out.old }
+    ensures named { Named W.kind W.codes (S.table source.now W.kind).start_weight }
+    ensures bytes { out.new ≡ over_from at (field_of W.codes.number (start_call W.kind W.codes (S.table source.now W.kind))) out.old }
 {
     let code = code_of(source.start_weight());
     put_field(out, at, &start_field(source.start(), code));
@@ -143,7 +143,7 @@ fn write_start<W: Coded, S: Source<W>>(source: &S, out: &mut [u8], at: usize)
 
 // The length of the draft file of a source, or the refusal of writing it into so many bytes.
 fn draft_length<W: Coded, S: Source<W>>(source: &S, room: usize) -> Result<usize, Refusal>
-    ensures { outcome result ≡ judged (write_verdict (table source.now W.Weight.kind) room) (draft_size (table source.now W.Weight.kind)) }
+    ensures { outcome result ≡ judged (write_verdict (S.table source.now W.kind) room) (draft_size (S.table source.now W.kind)) }
 {
     let states = source.states() as usize;
     if states >= 4096 {
@@ -159,7 +159,7 @@ fn draft_length<W: Coded, S: Source<W>>(source: &S, room: usize) -> Result<usize
 // Writes a source as a draft file: the head, the states, the arcs by state and letter, and the start. The answer is the file's
 // length. Refused: 4,096 states by 8, then a memory that is too short by 6.
 pub fn write_draft<W: Coded, S: Source<W>>(source: &S, out: &mut [u8]) -> Result<usize, Refusal>
-    ensures { DraftWritten W.Weight.kind W.Coded.codes (table source.now W.Weight.kind) out.old out.new result }
+    ensures { DraftWritten W.kind W.codes (S.table source.now W.kind) out.old out.new result }
 {
     let length = draft_length(source, out.len())?;
     put_field(out, 0, &head_field::<W>(source.letters()));

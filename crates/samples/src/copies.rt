@@ -16,7 +16,7 @@ fn copied<'a, W: Coded, S: Source<W>>(
     weights: &'a mut [W],
     marks: &'a mut [u8],
 ) -> Option<Sheet<'a, W>>
-    ensures { IfSome result (λ sheet. WeighAlike W.Weight.kind.group (sheet_table W.Weight.kind (held sheet)) (table source.now W.Weight.kind)) }
+    ensures { IfSome result (λ sheet. WeighAlike W.kind.group (sheet_table W.kind (held sheet)) (S.table source.now W.kind)) }
 {
     let Ok(length) = write_draft(source, bytes) else {
         return None;

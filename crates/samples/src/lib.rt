@@ -1,3 +1,5 @@
+#![tactic(auto)]
+
 // Examples of the library in use, each refusal among them: tests, and functions that are proved and not run.
 #[cfg(test)]
 mod books;

@@ -26,8 +26,8 @@ impl<L: Drop, R: Drop> Both<L, R> {
     where
         L: Source<W>,
         R: Source<W>,
-        ensures answer { outcome result ≡ judged (both_verdict (L.Source.table left W.Weight.kind) (R.Source.table right W.Weight.kind)) (record { left = left; right = right }) }
-        ensures weighs { IfOk result (λ b. WeighsAsProduct W.Weight.kind.group (L.Source.table left W.Weight.kind) (R.Source.table right W.Weight.kind) (both_table W.Weight.kind.group (L.Source.table b.left W.Weight.kind) (R.Source.table b.right W.Weight.kind))) }
+        ensures answer { outcome result ≡ judged (both_verdict (L.table left W.kind) (R.table right W.kind)) (record { left = left; right = right }) }
+        ensures weighs { IfOk result (λ b. WeighsAsProduct W.kind.group (L.table left W.kind) (R.table right W.kind) (both_table W.kind.group (L.table b.left W.kind) (R.table b.right W.kind))) }
     {
         W::commutes();
         match sizes(&left, &right) {
@@ -39,7 +39,7 @@ impl<L: Drop, R: Drop> Both<L, R> {
 
 // The states of two sources, or why these cannot be joined.
 fn sizes<W: Weight, L: Source<W>, R: Source<W>>(left: &L, right: &R) -> Result<Sides, Refusal>
-    ensures { outcome result ≡ judged (both_verdict (L.Source.table left.entry.now W.Weight.kind) (R.Source.table right.now W.Weight.kind)) (record { left = (L.Source.table left.entry.now W.Weight.kind).states; right = (R.Source.table right.now W.Weight.kind).states }) }
+    ensures { outcome result ≡ judged (both_verdict (L.table left.entry.now W.kind) (R.table right.now W.kind)) (record { left = (L.table left.entry.now W.kind).states; right = (R.table right.now W.kind).states }) }
 {
     if left.letters() != right.letters() {
         return Err(Refusal::UnequalLetters);
@@ -80,9 +80,9 @@ fn split(state: u16, sizes: Sides) -> Option<Sides>
 }
 
 impl<W: Weight, L: Source<W>, R: Source<W>> Source<W> for Both<L, R> {
-    ghost table = { λ b K. both_table K.group (L.Source.table b.left K) (R.Source.table b.right K) };
+    ghost table = { λ b K. both_table K.group (L.table b.left K) (R.table b.right K) };
 
-    ghost lawful = { λ b K. both_lawful K.group (L.Source.table b.left K) (R.Source.table b.right K) (L.Source.lawful b.left K) (R.Source.lawful b.right K) };
+    ghost lawful = { λ b K. both_lawful K.group (L.table b.left K) (R.table b.right K) (L.lawful b.left K) (R.lawful b.right K) };
 
     fn states(&self) -> u16 {
         match sizes(&self.left, &self.right) {

@@ -45,8 +45,8 @@ impl<S: Drop> Fold<S> {
     pub fn new<W: Weight>(source: S, letters: &[u8]) -> Result<Fold<S>, Refusal>
     where
         S: Source<W>,
-        ensures answer { outcome_as folding result ≡ judged (fold_verdict (table source W.Weight.kind).letters letters.now) (record { source = source; letters = letters.now }) }
-        ensures weighs { IfOk result (λ f. WeighsAsImage W.Weight.kind.group letters.now (table source W.Weight.kind) (fold_table (table source W.Weight.kind) f)) }
+        ensures answer { outcome_as folding result ≡ judged (fold_verdict (S.table source W.kind).letters letters.now) (record { source = source; letters = letters.now }) }
+        ensures weighs { IfOk result (λ f. WeighsAsImage W.kind.group letters.now (S.table source W.kind) (fold_table (S.table source W.kind) f)) }
     {
         match refusal(source.letters(), letters) {
             Some(refusal) => Err(refusal),
@@ -69,9 +69,9 @@ impl<S> Fold<S> {
 }
 
 impl<W: Weight, S: Source<W>> Source<W> for Fold<S> {
-    ghost table = { λ f K. fold_table (S.Source.table f.source K) f };
+    ghost table = { λ f K. fold_table (S.table f.source K) f };
 
-    ghost lawful = { λ f K. fold_lawful (S.Source.table f.source K) f (S.Source.lawful f.source K) };
+    ghost lawful = { λ f K. fold_lawful (S.table f.source K) f (S.lawful f.source K) };
 
     fn states(&self) -> u16 {
         self.source.states()

@@ -1,3 +1,5 @@
+#![tactic(auto)]
+
 mod both;
 mod fold;
 mod letters;

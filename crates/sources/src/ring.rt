@@ -17,7 +17,7 @@ impl<W: Weight> Ring<W> {
     // The ring of that many states and letters. Refused: letters by 1, then states by 8.
     pub fn new(states: u16, letters: u8, weight: W) -> Result<Ring<W>, Refusal>
         ensures answer { outcome result ≡ judged (ring_verdict states letters) (record { states = states; letters = letters; weight = weight }) }
-        ensures weighs { IfOk result (λ ring. WeighsAsRing W.Weight.kind.group states letters (W.Weight.kind.mean weight) (ring_table W.Weight.kind ring)) }
+        ensures weighs { IfOk result (λ ring. WeighsAsRing W.kind.group states letters (W.kind.mean weight) (ring_table W.kind ring)) }
     {
         Ring::checked(states, letters, weight)
     }

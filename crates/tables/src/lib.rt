@@ -1,3 +1,5 @@
+#![tactic(auto)]
+
 mod book;
 mod call;
 mod memory;

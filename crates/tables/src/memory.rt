@@ -50,7 +50,7 @@ pub fn byte_in(bytes: &[u8], at: usize) -> u8
 
 // The element at a place, one where the place does not exist.
 pub(crate) fn element_in<W: Weight>(elements: &[W], at: usize) -> W
-    ensures { W.Weight.kind.mean result ≡ mean_at W.Weight.kind elements.now at }
+    ensures { W.kind.mean result ≡ mean_at W.kind elements.now at }
 {
     if at < elements.len() {
         elements[at]

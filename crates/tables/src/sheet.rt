@@ -82,7 +82,7 @@ impl<'a, W: Weight> Sheet<'a, W> {
 
     // With which weight the place leads.
     fn led_by(&self, at: usize) -> W
-        ensures { W.Weight.kind.mean result ≡ led_by W.Weight.kind (held self.now) at }
+        ensures { W.kind.mean result ≡ led_by W.kind (held self.now) at }
     {
         let to = target_in(self.targets, at);
         let drawn = self.drawn_states();

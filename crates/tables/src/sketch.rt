@@ -30,7 +30,7 @@ fn make_in_step<W: Weight>(book: &mut Book<'_, W>, call: Call<W>) -> Result<(), 
 }
 
 fn close_in_step<'a, W: Weight>(book: Book<'a, W>) -> Sheet<'a, W>
-    ensures { (n : Lengths) (s : Sketch W) → InStep n s (written book.entry) → sheet_table W.Weight.kind (held result) ≡ sketch_table W.Weight.kind s }
+    ensures { (n : Lengths) (s : Sketch W) → InStep n s (written book.entry) → sheet_table W.kind (held result) ≡ sketch_table W.kind s }
 {
     book.close()
 }

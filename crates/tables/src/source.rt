@@ -13,23 +13,23 @@ pub trait Source<W: Weight> {
     ghost lawful: { (x : Self) (K : Kind W) → Lawful (table x K) };
 
     fn states(&self) -> u16
-        ensures { result ≡ (table self.now W.Weight.kind).states };
+        ensures { result ≡ (table self.now W.kind).states };
 
     fn letters(&self) -> u8
-        ensures { result ≡ (table self.now W.Weight.kind).letters };
+        ensures { result ≡ (table self.now W.kind).letters };
 
     fn start(&self) -> u16
-        ensures { result ≡ (table self.now W.Weight.kind).start };
+        ensures { result ≡ (table self.now W.kind).start };
 
     fn start_weight(&self) -> W
-        ensures { W.Weight.kind.mean result ≡ (table self.now W.Weight.kind).start_weight };
+        ensures { W.kind.mean result ≡ (table self.now W.kind).start_weight };
 
     fn is_final(&self, state: u16) -> Option<bool>
-        ensures { result ≡ final_at (table self.now W.Weight.kind) state };
+        ensures { result ≡ final_at (table self.now W.kind) state };
 
     fn target(&self, state: u16, letter: u8) -> Option<u16>
-        ensures { result ≡ target_at (table self.now W.Weight.kind) state letter };
+        ensures { result ≡ target_at (table self.now W.kind) state letter };
 
     fn weight(&self, state: u16, letter: u8) -> Option<W>
-        ensures { meant W.Weight.kind result ≡ weight_at (table self.now W.Weight.kind) state letter };
+        ensures { meant W.kind result ≡ weight_at (table self.now W.kind) state letter };
 }

@@ -26,8 +26,8 @@ fn is_letter(byte: u8, letters: u8) -> bool
 
 // The weight of a word whose bytes all are letters.
 fn run<W: Weight, S: Source<W>>(source: &S, word: &[u8]) -> Option<W>
-    requires { no_letter_from (table source.now W.Weight.kind).letters 0 word.now ≡ None }
-    ensures { meant W.Weight.kind result ≡ weight_of W.Weight.kind.group (table source.now W.Weight.kind) word.now }
+    requires { no_letter_from (S.table source.now W.kind).letters 0 word.now ≡ None }
+    ensures { meant W.kind result ≡ weight_of W.kind.group (S.table source.now W.kind) word.now }
 {
     let mut state = source.start();
     let mut product = source.start_weight();
@@ -44,7 +44,7 @@ fn run<W: Weight, S: Source<W>>(source: &S, word: &[u8]) -> Option<W>
 
 // The weight of a word, or none; a byte that is no letter is refused by 3, with the index of the first such byte.
 pub fn weigh<W: Weight, S: Source<W>>(source: &S, word: &[u8]) -> Result<Option<W>, Refusal>
-    ensures { outcome_as (meant W.Weight.kind) result ≡ weighing W.Weight.kind.group (table source.now W.Weight.kind) word.now }
+    ensures { outcome_as (meant W.kind) result ≡ weighing W.kind.group (S.table source.now W.kind) word.now }
 {
     match first_no_letter(word, source.letters()) {
         Some(i) => Err(Refusal::NoLetterAt(i)),

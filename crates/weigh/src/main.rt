@@ -1,3 +1,5 @@
+#![tactic(auto)]
+
 // Reads a draft file from standard input and weighs the words that its arguments name, letters set apart by spaces.
 ghost use Rattle.std.specs.Prelude.{◌≡◌, IfOk, vec_len};
 

@@ -24,8 +24,8 @@ pub trait Coded: Weight {
     ghost made: { (c : ℕ) (x : Self) → codes.element c ≡ Some x → codes.code_of x ≡ c };
 
     // the code of an element makes one that means the same
-    ghost whole: { (x : Self) → (y : Self) × (codes.element (codes.code_of x) ≡ Some y) × (Self.Weight.kind.mean y ≡ Self.Weight.kind.mean x) };
+    ghost whole: { (x : Self) → (y : Self) × (codes.element (codes.code_of x) ≡ Some y) × (Self.kind.mean y ≡ Self.kind.mean x) };
 
     // the code goes by the meaning alone
-    ghost alike: { (x y : Self) → Self.Weight.kind.mean x ≡ Self.Weight.kind.mean y → codes.code_of x ≡ codes.code_of y };
+    ghost alike: { (x y : Self) → Self.kind.mean x ≡ Self.kind.mean y → codes.code_of x ≡ codes.code_of y };
 }

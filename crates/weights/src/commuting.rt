@@ -6,5 +6,5 @@ use crate::weight::Weight;
 pub trait Commuting: Weight {
     // Nothing is computed: the promise is the law.
     fn commutes()
-        ensures { Commutes Self.Weight.kind.group };
+        ensures { Commutes Self.kind.group };
 }

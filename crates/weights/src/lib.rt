@@ -1,3 +1,5 @@
+#![tactic(auto)]
+
 mod check;
 mod coded;
 mod commuting;

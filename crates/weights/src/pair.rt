@@ -11,7 +11,7 @@ pub struct Pair<L, R> {
 }
 
 impl<L: Weight, R: Weight> Weight for Pair<L, R> {
-    ghost kind = { pair_kind L.Weight.kind R.Weight.kind };
+    ghost kind = { pair_kind L.kind R.kind };
 
     fn one() -> Pair<L, R> {
         Pair {

@@ -10,14 +10,14 @@ use Rattle.drafts.specs.Fault.{blame, unmade}
 use Rattle.drafts.proofs.Listing.{field_read, within_file, read_on, read_refused, read_fault}
 use Rattle.drafts.proofs.read.advance.Goals as goal
 
-pub returns-in-err-field : goal.returns-in-err-field
-returns-in-err-field g c =
+pub returns-in_err-field : goal.returns-in_err-field
+returns-in_err-field g c =
     let k = g.W.Coded.codes in
     let bs = c.args.bytes.now in
     let o = c.args.offset in
-    let f = c.in-err-field.field-0.0 in
-    let p = err_from_is_err_and c.from-residual.result c.from-residual.ensures.1 in
-    let field = field_read k bs o c.read-field.result (Err f) c.read-field.ensures c.in-err-field.was in
+    let f = c.in_err-field.field-0.0 in
+    let p = err_from_is_err_and c.from_residual.result c.from_residual.ensures.1 in
+    let field = field_read k bs o c.read_field.result (Err f) c.read_field.ensures c.in_err-field.was in
     rw (p.1, p.2)
     (record {
       read = read_fault k bs o c.requires (written c.args.book.now) (blame f) field;
@@ -30,8 +30,8 @@ returns-in-Ok g c =
     let bs = c.args.bytes.now in
     let o = c.args.offset in
     let book = written c.args.book.now in
-    let f = c.in-ok-field.field in
-    let field = field_read k bs o c.read-field.result (Ok f) c.read-field.ensures c.in-ok-field.was in
+    let f = c.in_ok-field.field in
+    let field = field_read k bs o c.read_field.result (Ok f) c.read_field.ensures c.in_ok-field.was in
     let met : verdict (size_of book) f.call ≡ None =
     (taken_none (verdict (size_of book) f.call) tt tt (sym c.make.ensures.answer ∙ ap outcome c.in-Ok.is)).0 in
     let read = read_on k bs o c.requires book f field met in
@@ -45,9 +45,9 @@ returns-in-Err g c =
     let bs = c.args.bytes.now in
     let o = c.args.offset in
     let book = written c.args.book.now in
-    let f = c.in-ok-field.field in
+    let f = c.in_ok-field.field in
     let t = told c.in-Err.refusal in
-    let field = field_read k bs o c.read-field.result (Ok f) c.read-field.ensures c.in-ok-field.was in
+    let field = field_read k bs o c.read_field.result (Ok f) c.read_field.ensures c.in_ok-field.was in
     let met : verdict (size_of book) f.call ≡ Some t =
     refused_some (verdict (size_of book) f.call) tt t (sym c.make.ensures.answer ∙ ap outcome c.in-Err.is) in
     let after : written c.make.new.book ≡ book = c.make.ensures.after ∙ ap (λ v. if_taken v (taken book f.call) book) met in
@@ -56,12 +56,12 @@ returns-in-Err g c =
       lent = c.make.ensures.lent;
     }
 
-pub overflow-add-result : goal.overflow-add-result
-overflow-add-result g c =
+pub overflow_add-result : goal.overflow_add-result
+overflow_add-result g c =
     let k = g.W.Coded.codes in
     let bs = c.args.bytes.now in
     let o = c.args.offset in
-    let f = c.in-ok-field.field in
-    let field = field_read k bs o c.read-field.result (Ok f) c.read-field.ensures c.in-ok-field.was in
+    let f = c.in_ok-field.field in
+    let field = field_read k bs o c.read_field.result (Ok f) c.read_field.ensures c.in_ok-field.was in
     let inside : o + f.length ≤ length bs = (within_file k bs o c.requires (eqb o 0) f field).1 in
     search rules

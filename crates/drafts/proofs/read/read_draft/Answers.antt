@@ -5,13 +5,13 @@ use Rattle.drafts.specs.Fault.{blame, ended}
 use Rattle.drafts.proofs.Listing.{read_empty, read_all}
 use Rattle.drafts.proofs.read.read_draft.Goals as goal
 
-pub returns-then-is-empty : goal.returns-then-is-empty
-returns-then-is-empty g c =
+pub returns-then-is_empty : goal.returns-then-is_empty
+returns-then-is_empty g c =
     let bs = c.args.bytes.now in
-    let none : length bs ≡ 0 = eqb-true (length bs) 0 (sym c.is-empty.ensures ∙ c.if-is-empty.true) in
+    let none : length bs ≡ 0 = eqb-true (length bs) 0 (sym c.is_empty.ensures ∙ c.if-is_empty.true) in
     let whole = read_empty g.W.Coded.codes bs (written c.args.book.now) none in
     record {
-      answer = ap (λ f. Err (blame f)) c.bad-field.ensures ∙ ap (λ r. ended r.fault) (sym whole);
+      answer = ap (λ f. Err (blame f)) c.bad_field.ensures ∙ ap (λ r. ended r.fault) (sym whole);
       after = ap (λ r. r.after) (sym whole);
       lent = record { targets = refl; weights = refl; marks = refl };
     }

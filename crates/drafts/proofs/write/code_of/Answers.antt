@@ -8,7 +8,7 @@ returns g c =
     let k = g.W.Coded.codes in
     let laws = g.met.W.Coded in
     let x = c.args.weight in
-    let small : k.code_of x < 65536 = subst (λ n. n < 65536) c.code.ensures c.code.type-inv in
+    let small : k.code_of x < 65536 = subst (λ n. n < 65536) c.code.ensures c.code.type_inv in
     record {
       code = c.code.ensures ∙ sym (code_for_mean K k laws.made laws.whole laws.alike x small);
       named = code_for_makes K k laws.made laws.whole laws.alike x (K.mean x) refl small;

@@ -10,5 +10,5 @@ returns c =
     let field = c.args.field.now in
     let n = length field in
     let size : n ≡ at + n - at = omega arith in
-    put_mid-paste at (at + n - at) out c.copy-from-slice.new.self field n c.copy-from-slice.ensures.after size refl
+    put_mid-paste at (at + n - at) out c.copy_from_slice.new.self field n c.copy_from_slice.ensures.after size refl
     ∙ paste_all out at field n refl

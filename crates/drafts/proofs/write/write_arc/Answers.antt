@@ -12,8 +12,8 @@ same_arc :
     {q a r c q' a' r' c' : ℕ} → q ≡ q' → a ≡ a' → r ≡ r' → c ≡ c' → ◌≡◌ {A = Call ℕ} (Arc q a r c) (Arc q' a' r' c')
 same_arc e f g h = cc
 
-pub overflow-cast-from : goal.overflow-cast-from
-overflow-cast-from g c =
+pub overflow_cast-from : goal.overflow_cast-from
+overflow_cast-from g c =
     let K = g.W.Weight.kind in
     let t = g.S.Source.table c.args.source.now K in
     let lawful = g.S.Source.lawful c.args.source.now K in
@@ -54,12 +54,12 @@ returns g c =
     let weighs : K.mean c.unwrap.result ≡ t.weight (p / s) (p % s) =
     some_injective (sym (ap (meant K) c.unwrap.ensures) ∙ c.weight.ensures ∙ within_true _ _ there) in
     record {
-      named = subst (λ n. Named K k (t.weight (p / n) (p % n))) letters (subst (Named K k) weighs c.code-of-code.ensures.named);
+      named = subst (λ n. Named K k (t.weight (p / n) (p % n))) letters (subst (Named K k) weighs c.code_of-code.ensures.named);
       bytes =
-          c.put-field.ensures
+          c.put_field.ensures
           ∙ ap (λ xs. over_from c.args.at xs c.args.out.now)
           (c.arc_field.ensures k.number
           ∙ ap (field_of k.number)
           (same_arc (ap (λ n. p / n) letters) (ap (λ n. p % n) letters) (leads ∙ ap (λ n. t.target (p / n) (p % n)) letters)
-          (c.code-of-code.ensures.code ∙ ap (code_for K k) (weighs ∙ ap (λ n. t.weight (p / n) (p % n)) letters))));
+          (c.code_of-code.ensures.code ∙ ap (code_for K k) (weighs ∙ ap (λ n. t.weight (p / n) (p % n)) letters))));
     }

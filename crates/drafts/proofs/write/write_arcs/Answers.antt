@@ -14,8 +14,8 @@ loop-arc-preserved g c =
     let at = c.args.at in
     let p = c.loop-arc.arc in
     let room : at ≤ length c.args.out.now = omega arith in (
-      below_more _ p c.loop-arc.invariant.0 c.write-arc.ensures.named,
-      c.write-arc.ensures.bytes
+      below_more _ p c.loop-arc.invariant.0 c.write_arc.ensures.named,
+      c.write_arc.ensures.bytes
           ∙ ap (over_from (at + 10 * p) (field_of k.number (call p))) c.loop-arc.invariant.1
           ∙ written_more k.number 10 call (λ i. refl) at p c.args.out.now room,
     )

@@ -10,18 +10,18 @@ use Rattle.drafts.proofs.Again.{named_arcs, read_back}
 use Rattle.drafts.proofs.Writing.{length_draft, draft_written}
 use Rattle.drafts.proofs.write.write_draft.Goals as goal
 
-pub returns-in-err-length : goal.returns-in-err-length
-returns-in-err-length g c =
+pub returns-in_err-length : goal.returns-in_err-length
+returns-in_err-length g c =
     let K = g.W.Weight.kind in
     let k = g.W.Coded.codes in
     let t = g.S.Source.table c.args.source.now K in
     let memory = c.args.out.now in
     let verdict = write_verdict t (length memory) in
-    let e = c.in-err-length.field-0.0 in
-    let p = err_from_is_err_and c.from-residual.result c.from-residual.ensures.1 in
-    let answer : judged verdict (draft_size t) ≡ Err (told e) = sym c.draft-length.ensures ∙ ap outcome c.in-err-length.was in
+    let e = c.in_err-length.field-0.0 in
+    let p = err_from_is_err_and c.from_residual.result c.from_residual.ensures.1 in
+    let answer : judged verdict (draft_size t) ≡ Err (told e) = sym c.draft_length.ensures ∙ ap outcome c.in_err-length.was in
     let refused = refused_some verdict (draft_size t) (told e) answer in
-    let was : c.from-residual.result ≡ Err e = p.1 ∙ ap Err p.2 in
+    let was : c.from_residual.result ≡ Err e = p.1 ∙ ap Err p.2 in
     record {
       answer = ap outcome was ∙ sym answer;
       bytes = ap (λ v. if_taken v (over (draft_bytes K k t) memory) memory) (sym refused);
@@ -36,18 +36,18 @@ returns g c =
     let t = g.S.Source.table c.args.source.now K in
     let memory = c.args.out.now in
     let verdict = write_verdict t (length memory) in
-    let n = c.in-ok-length.length in
-    let answer : judged verdict (draft_size t) ≡ Ok n = sym c.draft-length.ensures ∙ ap outcome c.in-ok-length.was in
+    let n = c.in_ok-length.length in
+    let answer : judged verdict (draft_size t) ≡ Ok n = sym c.draft_length.ensures ∙ ap outcome c.in_ok-length.was in
     let taken = taken_none verdict (draft_size t) n answer in
     let none : verdict ≡ None = taken.0 in
     let first = unless_none (ltb t.states 4096) 8 (unless (leb (draft_size t) (length memory)) 6 None) none in
     let few : t.states < 4096 = ltb-true t.states 4096 first.0 in
     let field = c.head_field.ensures ∙ ap (λ s. field_of k.number (Rule s)) c.letters.ensures in
-    let head = c.put-field.ensures ∙ ap (λ xs. over_from 0 xs memory) field in
-    let states = c.write-states.ensures ∙ ap (over_from 5 (states_bytes K k t t.states)) head in
+    let head = c.put_field.ensures ∙ ap (λ xs. over_from 0 xs memory) field in
+    let states = c.write_states.ensures ∙ ap (over_from 5 (states_bytes K k t t.states)) head in
     let from : ℕ = 5 + 4 * c.states.result in
-    let arcs = c.write-arcs.ensures.bytes ∙ ap (over_from from (arcs_bytes K k t (arc_count t))) states in
-    let start = c.write-start.ensures.bytes ∙ ap (over_from (n - 7) (field_of k.number (start_call K k t))) arcs in
+    let arcs = c.write_arcs.ensures.bytes ∙ ap (over_from from (arcs_bytes K k t (arc_count t))) states in
+    let start = c.write_start.ensures.bytes ∙ ap (over_from (n - 7) (field_of k.number (start_call K k t))) arcs in
     record {
       answer = sym answer;
       bytes =
@@ -56,6 +56,6 @@ returns g c =
           ∙ ap (λ v. if_taken v (over (draft_bytes K k t) memory) memory) (sym none);
       size = length_draft K k t;
       again =
-          read_back K k t (g.S.Source.lawful c.args.source.now K) few (named_arcs K k t c.write-arcs.ensures.named)
-          c.write-start.ensures.named;
+          read_back K k t (g.S.Source.lawful c.args.source.now K) few (named_arcs K k t c.write_arcs.ensures.named)
+          c.write_start.ensures.named;
     }

@@ -8,13 +8,13 @@ pub returns : goal.returns
 returns g c =
     let K = g.W.Weight.kind in
     let k = g.W.Coded.codes in
-    let code = c.code-of-code.ensures.code ∙ ap (code_for K k) c.start_weight.ensures in
+    let code = c.code_of-code.ensures.code ∙ ap (code_for K k) c.start_weight.ensures in
     record {
-      named = subst (Named K k) c.start_weight.ensures c.code-of-code.ensures.named;
+      named = subst (Named K k) c.start_weight.ensures c.code_of-code.ensures.named;
       bytes =
-          c.put-field.ensures
+          c.put_field.ensures
           ∙ ap (λ xs. over_from c.args.at xs c.args.out.now)
           (c.start_field.ensures k.number
-          ∙ ap (λ q. field_of k.number (Start q c.code-of-code.result)) c.start.ensures
+          ∙ ap (λ q. field_of k.number (Start q c.code_of-code.result)) c.start.ensures
           ∙ ap (λ x. field_of k.number (Start (g.S.Source.table c.args.source.now K).start x)) code);
     }

@@ -11,6 +11,6 @@ returns g c =
     let kind = g.W.Coded.codes.number in
     let q = c.args.state in
     let there = within_true (ltb q t.states) (t.final q) (lt-ltb q t.states c.requires.inside) in
-    let final : c.unwrap.result ≡ t.final q = some_injective (sym c.unwrap.ensures ∙ c.is-final.ensures ∙ there) in
-    c.put-field.ensures
+    let final : c.unwrap.result ≡ t.final q = some_injective (sym c.unwrap.ensures ∙ c.is_final.ensures ∙ there) in
+    c.put_field.ensures
     ∙ ap (λ xs. over_from c.args.at xs c.args.out.now) (c.state_field.ensures kind ∙ ap (λ f. field_of kind (State f)) final)

@@ -14,6 +14,6 @@ loop-state-preserved g c =
     let at = c.args.at in
     let q = c.loop-state.state in
     let room : at ≤ length c.args.out.now = omega arith in
-    c.write-state.ensures
+    c.write_state.ensures
     ∙ ap (over_from (at + 4 * q) (field_of k.number (call q))) c.loop-state.invariant
     ∙ written_more k.number 4 call (λ i. refl) at q c.args.out.now room

@@ -6,8 +6,8 @@ use Rattle.sources.proofs.both.join.Goals as goal
 inside : (l r m n : ℕ) → l < m → r < n → m * n ≤ 4096 → l * n + r < 4096
 inside l r m n in_left in_right few = let h : l * n + r < m * n = digits_lt in_left in_right in omega arith
 
-pub overflow-mul-result : goal.overflow-mul-result
-overflow-mul-result c = let h = inside _ _ _ _ c.requires.in_left c.requires.in_right c.requires.few in search rules
+pub overflow_mul-result : goal.overflow_mul-result
+overflow_mul-result c = let h = inside _ _ _ _ c.requires.in_left c.requires.in_right c.requires.few in search rules
 
-pub overflow-add-result : goal.overflow-add-result
-overflow-add-result c = let h = inside _ _ _ _ c.requires.in_left c.requires.in_right c.requires.few in search rules
+pub overflow_add-result : goal.overflow_add-result
+overflow_add-result c = let h = inside _ _ _ _ c.requires.in_left c.requires.in_right c.requires.few in search rules

@@ -44,11 +44,11 @@ returns-then-unwrap g c =
     let K = g.W.Weight.kind in
     let t = g.S.Source.table c.args.source.now K in
     run_all K.group t c.args.word.now c.loop-letter.letter-index (K.mean c.loop-letter.product) c.loop-letter.state true
-    c.loop-letter-test.false c.loop-letter.invariant.1 c.loop-letter.invariant.3 (sym c.is-final.ensures ∙ c.if-unwrap.ensures)
+    c.loop-letter-test.false c.loop-letter.invariant.1 c.loop-letter.invariant.3 (sym c.is_final.ensures ∙ c.if-unwrap.ensures)
 
 pub returns-else-unwrap : goal.returns-else-unwrap
 returns-else-unwrap g c =
     let K = g.W.Weight.kind in
     let t = g.S.Source.table c.args.source.now K in
     run_all K.group t c.args.word.now c.loop-letter.letter-index (K.mean c.loop-letter.product) c.loop-letter.state false
-    c.loop-letter-test.false c.loop-letter.invariant.1 c.loop-letter.invariant.3 (sym c.is-final.ensures ∙ c.if-unwrap.ensures)
+    c.loop-letter-test.false c.loop-letter.invariant.1 c.loop-letter.invariant.3 (sym c.is_final.ensures ∙ c.if-unwrap.ensures)

@@ -7,6 +7,6 @@ use Rattle.weights.proofs.check.inverse_byte.Goals as goal
 pub returns : goal.returns
 returns c =
     let x : ℕ = number_of c.args.a.0 in
-    let power : c.power-255-mod.result ≡ power_255 x = c.power-255-mod.ensures ∙ ap power_255 c.number.ensures in
+    let power : c.power_255_mod.result ≡ power_255 x = c.power_255_mod.ensures ∙ ap power_255 c.number.ensures in
     chosen_path _ _
     (number_stored c.stored.result.0 (power_255 x) (rw power at c.stored.ensures) (inverse_of x (number_unit c.args.a.0)).0)
