@@ -39,7 +39,7 @@ impl<L: Drop, R: Drop> Both<L, R> {
 
 // The states of two sources, or why these cannot be joined.
 fn sizes<W: Weight, L: Source<W>, R: Source<W>>(left: &L, right: &R) -> Result<Sides, Refusal>
-    ensures { outcome result ≡ judged (both_verdict (L.table left.entry.now W.kind) (R.table right.now W.kind)) (record { left = (L.table left.entry.now W.kind).states; right = (R.table right.now W.kind).states }) }
+    ensures { outcome result ≡ judged (both_verdict (L.table left.now W.kind) (R.table right.now W.kind)) (record { left = (L.table left.entry.now W.kind).states; right = (R.table right.now W.kind).states }) }
 {
     if left.letters() != right.letters() {
         return Err(Refusal::UnequalLetters);

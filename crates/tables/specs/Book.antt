@@ -1,5 +1,5 @@
 -- What an open book holds, and what each call makes of it. Assumes nothing.
-use Rattle.std.specs.Prelude.{ℕ, zero, suc, ◌+◌, ◌*◌, Bool, cond, List, length, set, Result, slice_set}
+use Rattle.std.specs.Prelude.{ℕ, zero, suc, ◌+◌, ◌*◌, Bool, cond, List, length, Result, slice_set}
 use Rattle.weights.specs.Refusal.{Told, judged}
 use Rattle.tables.specs.Call.{Size, verdict, if_taken}
 use Rattle.tables.specs.declared.call.Call.{Call}

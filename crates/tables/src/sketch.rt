@@ -17,7 +17,7 @@ fn open_in_step<'a, W: Weight>(
     weights: &'a mut [W],
     marks: &'a mut [u8],
 ) -> Book<'a, W>
-    ensures { InStep (record { targets = length targets.entry.now; weights = length weights.old; marks = length marks.old }) blank (written result) }
+    ensures { InStep (record { targets = length targets.old; weights = length weights.old; marks = length marks.old }) blank (written result) }
 {
     Book::open(targets, weights, marks)
 }

@@ -1,4 +1,4 @@
-use Rattle.std.proofs.Common.{◌≡◌, ◌+◌, set, sym, ap, ◌∙◌, add-one}
+use Rattle.std.proofs.Common.{◌+◌, set, sym, ap, ◌∙◌, add-one}
 use Rattle.tables.specs.Book.{cleared, unset}
 use Rattle.tables.proofs.memory.clear.Goals as goal
 

@@ -1,4 +1,4 @@
-use Rattle.std.proofs.Common.{◌≡◌, ℕ, suc, ◌+◌, ◌<◌, true, false, get_or, drop, Some, None, sym, ap, ◌∙◌, subst, add-one, arith}
+use Rattle.std.proofs.Common.{◌≡◌, ◌+◌, ◌<◌, true, false, get_or, drop, Some, sym, ap, ◌∙◌, subst, add-one, arith}
 use Rattle.std.proofs.lemmas.List.{at_drop_more}
 use Rattle.tables.specs.Table.{meant, no_letter_from, weight_from, weight_of, scaled}
 use Rattle.tables.proofs.Reading.{first_letter, within_true, meant_there, some_injective, arc_there, run_more, run_all}
