@@ -186,7 +186,7 @@ module _ {W : Type 0} (K : Kind W) (k : Codes W) (t : Table K.group.Mean) (lawfu
       ∙ drawn_append k d (drawn_all k d ruled states) arcs (start_call K k t ∷ [])
 
   module _ (named : (q a : ℕ) → q < t.states → a < t.letters → Named K k (t.weight q a))
-      (start-named : Named K k t.start_weight) where
+      (start_named : Named K k t.start_weight) where
     -- the element of the code of a meaning has it
     named_mean : (m : K.group.Mean) → Named K k m → K.mean (or_else d (k.element (code_for K k m))) ≡ m
     named_mean m h = ap (λ o. K.mean (or_else d o)) h.1 ∙ h.2
@@ -217,7 +217,7 @@ module _ {W : Type 0} (K : Kind W) (k : Codes W) (t : Table K.group.Mean) (lawfu
           letters = letters;
           words =
               λ w h.
-              ap (λ x. scaled G x (weight_from G (sketch_table K whole) t.start w)) (named_mean t.start_weight start-named)
+              ap (λ x. scaled G x (weight_from G (sketch_table K whole) t.start w)) (named_mean t.start_weight start_named)
               ∙ ap (scaled G t.start_weight) (words_alike t.start w lawful.start_inside (subst (λ s. Word s w) letters h));
         }
 
@@ -234,7 +234,7 @@ module _ {W : Type 0} (K : Kind W) (k : Codes W) (t : Table K.group.Mean) (lawfu
         let inside = arc_inside t lawful t.letters p refl l in
         let name = named (p / t.letters) (p % t.letters) inside.0 inside.1 in
         (name.0, name.1)))
-        ((start-named.0, start-named.1), tt))
+        ((start_named.0, start_named.1), tt))
 
     -- the reading of the draft makes its calls
     read_as_drawn :
@@ -257,12 +257,12 @@ pub read_back :
     {W : Type 0} (K : Kind W) (k : Codes W) (t : Table K.group.Mean) → Lawful t → t.states < 4096 →
     ((q a : ℕ) → q < t.states → a < t.letters → Named K k (t.weight q a)) → Named K k t.start_weight →
     (ts : List ℕ) (ws : List W) (ms : List ℕ) → ReadAgain K k t ts ws ms
-read_back K k t lawful few named start-named ts ws ms =
-    let d = start-named.0 in
+read_back K k t lawful few named start_named ts ws ms =
+    let d = start_named.0 in
     let n : Lengths = record { targets = length ts; weights = length ws; marks = length ms } in
     let new = opened_in_step ts ws ms in
     let calls = draft_calls K k t in
-    let same = read_as_drawn K k t lawful d named start-named ts ws ms in
+    let same = read_as_drawn K k t lawful d named start_named ts ws ms in
     record {
       unrefused =
           λ targets weights marks.
@@ -276,5 +276,5 @@ read_back K k t lawful few named start-named ts ws ms =
           subst (λ r. WeighAlike K.group (sheet_table K r.after) t) (sym same)
           (subst (λ u. WeighAlike K.group u t)
           (sym (same_table K n (drawn_all k d blank calls) after drawn ∙ ap (sketch_table K) (whole_drawn K k t lawful d)))
-          (drawn_alike K k t lawful d named start-named));
+          (drawn_alike K k t lawful d named start_named));
     }

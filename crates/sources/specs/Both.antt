@@ -71,9 +71,9 @@ product_lawful G t u l m e =
       few_letters = l.few_letters;
       start_inside = inside;
       target_inside =
-          λ q a q-inside a-inside.
+          λ q a q_inside a_inside.
           digits_lt
-          (l.target_inside (q / u.states) a (div_below q u.states t.states some q-inside) a-inside)
+          (l.target_inside (q / u.states) a (div_below q u.states t.states some q_inside) a_inside)
           (m.target_inside (q % u.states) a (mod_below q u.states some) (omega arith));
     }
 
