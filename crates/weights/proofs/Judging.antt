@@ -3,14 +3,6 @@ use Rattle.std.proofs.Common.{◌≡◌, ℕ, Bool, true, false, IfOk, Some, Non
 use Rattle.weights.specs.Refusal.{Told, outcome, unless, judged}
 use Rattle.weights.specs.declared.refusal.Refusal.{Refusal}
 
--- what holds of the defined value, where the call is not refused, holds of the value that is answered
-pub judged_is :
-    {X : Type 0} (v : Option Told) (y : X) (r : Result X Refusal) (P : X → Type 0) →
-    outcome r ≡ judged v y → (v ≡ None → P y) → IfOk r P
-judged_is None y (Ok x) P e h = let same : y ≡ x = cc in subst P same (h refl)
-judged_is (Some t) y (Ok x) P e h = absurd (let z : ◌≡◌ {A = ℕ} 0 1 = cc in omega arith)
-judged_is v y (Err t) P e h = tt
-
 -- what an answer tells of the verdict
 pub taken_none : {X : Type 0} (v : Option Told) (x y : X) → judged v x ≡ Ok y → (v ≡ None) × (y ≡ x)
 taken_none None x y e = (refl, cc)

@@ -1,5 +1,6 @@
 -- What a refusal tells: a number, and the values that go with it. Assumes nothing.
-use Rattle.std.specs.Prelude.{ℕ, Bool, cond, List, [], ◌∷◌, Some, None, Ok, Err, Option, Result}
+use Rattle.std.specs.Prelude.{ℕ, Bool, cond, List, [], ◌∷◌, ◌++◌, Some, None, Ok, Err, codes, Option, Result}
+use Rattle.std.specs.Fmt.{decimal}
 use Rattle.weights.specs.declared.refusal.Refusal.{Refusal}
 use Rattle.weights.specs.declared.refusal.Refusal.TheVariants.{Letters, NoState, NoLetter, NoLetterAt, NoCode, NoRoom, ShortMemory, BadField, StateCount, UnequalLetters}
 
@@ -26,6 +27,10 @@ told ShortMemory = bare 6
 told BadField = bare 7
 told StateCount = bare 8
 told UnequalLetters = bare 9
+
+-- how a refusal prints: its number, and the index that goes with it
+abbrev pub told_text : Told → List ℕ
+told_text t = elim t.values [ [] ↦ decimal t.number | i ∷ is ↦ decimal t.number ++ (codes " at index " ++ decimal i) ]
 
 -- an answer as a value, or as what its refusal tells
 abbrev pub outcome : {X : Type 0} → Result X Refusal → Result X Told

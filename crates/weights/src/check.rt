@@ -16,15 +16,15 @@ use crate::weight::Weight;
 pub struct Check(pub u8);
 
 impl Check {
-    // The number that the byte stands for.
+    // The number that the byte stands for. As `From` it would be no plainer: the clause would stand apart, in a ghost member.
     pub fn number(self) -> u16
         ensures { result ≡ number_of self.0 }
     {
-        if self.0 == 0 { 256 } else { self.0 as u16 }
+        if self.0 == 0 { 256 } else { u16::from(self.0) }
     }
 }
 
-// The byte that stands for a number.
+// The byte that stands for a number. Here and in the product `as` is proved to fit, and a `try_from` could fail.
 fn stored(number: u16) -> Check
     ensures { result.0 ≡ number % 256 }
 {
@@ -35,7 +35,7 @@ fn stored(number: u16) -> Check
 fn product_mod(a: u16, b: u16) -> u16
     ensures { result ≡ product a b }
 {
-    ((a as u32 * b as u32) % 257) as u16
+    (u32::from(a) * u32::from(b) % 257) as u16
 }
 
 // The square of r times x, modulo 257.
@@ -119,13 +119,11 @@ impl Coded for Check {
     }
 
     fn from_code(code: u16) -> Result<Check, Refusal> {
-        if code == 0 {
-            return Err(Refusal::NoCode);
+        if (1..=256).contains(&code) {
+            Ok(stored(code))
+        } else {
+            Err(Refusal::NoCode)
         }
-        if code > 256 {
-            return Err(Refusal::NoCode);
-        }
-        Ok(stored(code))
     }
 
     fn code(self) -> u16 {

@@ -9,14 +9,16 @@ use crate::weight::Weight;
 pub trait Coded: Weight {
     ghost codes: { Codes Self };
 
-    // The number of the kind in files.
+    // The number of the kind in files. No enum: kinds are open, and each brings its own.
     fn kind_number() -> u8
         ensures { result ≡ codes.number };
 
-    // The element of a code, or refusal 4.
+    // The element of a code, or refusal 4. `TryFrom` would be no plainer: its promise is each impl's own, and only a law could tie it
+    // to the codes.
     fn from_code(code: u16) -> Result<Self, Refusal>
         ensures { outcome result ≡ given (bare 4) (codes.element code) };
 
+    // The code of the element, where `Into` would likewise leave the promise to a law.
     fn code(self) -> u16
         ensures { result ≡ codes.code_of self };
 

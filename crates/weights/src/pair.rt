@@ -35,9 +35,7 @@ impl<L: Weight, R: Weight> Weight for Pair<L, R> {
     }
 
     fn same(self, other: Pair<L, R>) -> bool {
-        let left = self.left.same(other.left);
-        let right = self.right.same(other.right);
-        left & right
+        self.left.same(other.left) && self.right.same(other.right)
     }
 }
 

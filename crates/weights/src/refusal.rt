@@ -1,6 +1,9 @@
-ghost use Rattle.std.specs.Prelude.{◌≡◌};
+ghost use Rattle.std.specs.Prelude.{◌≡◌, Some};
 ghost use Rattle.std.specs.Option.{option_to_list};
-ghost use Rattle.weights.specs.Refusal.{told};
+ghost use Rattle.weights.specs.Refusal.{told, told_text};
+
+use std::error::Error;
+use std::fmt;
 
 // Why a call was not taken. Each has its number; `told` in specs/ lists them.
 #[derive(Clone, Copy, PartialEq, Eq, Debug)]
@@ -56,3 +59,17 @@ impl Refusal {
         }
     }
 }
+
+impl fmt::Display for Refusal {
+    ghost output = { λ r. Some (told_text (told r)) };
+
+    fn fmt<W: fmt::Write>(&self, f: &mut fmt::Formatter<W>) -> fmt::Result {
+        let number = self.number();
+        match self.index() {
+            Some(index) => write!(f, "{number} at index {index}"),
+            None => write!(f, "{number}"),
+        }
+    }
+}
+
+impl Error for Refusal {}

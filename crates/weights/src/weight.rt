@@ -18,7 +18,7 @@ pub trait Weight: Copy {
     fn inverse(self) -> Self
         ensures { kind.mean result ≡ kind.group.inv (kind.mean self) };
 
-    // whether both mean the same
+    // whether both mean the same; a derived `==` would compare what is stored
     fn same(self, other: Self) -> bool
         ensures { Decides result (kind.mean self ≡ kind.mean other) };
 }
