@@ -1,3 +1,3 @@
 pub mod Reading
-mod Places
+pub mod Places
 pub mod Steps

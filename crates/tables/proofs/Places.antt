@@ -1,6 +1,8 @@
 -- The places of arcs, and targets of which a run of places is cleared. Assumes nothing.
-use Rattle.std.proofs.Common.{◌≡◌, ℕ, zero, suc, ◌+◌, ◌*◌, ◌<◌, ◌≤◌, ◌≢◌, List, [], ◌∷◌, length, get_or, set, refl, ◌∙◌, inl, inr, add-zero, mul-le-mul_right, suc-mul, arith}
+use Rattle.std.proofs.Common.{◌≡◌, ℕ, zero, suc, ◌+◌, ◌*◌, ◌<◌, ◌≤◌, ◌≢◌, List, [], ◌∷◌, length, get_or, set, replicate, refl, ap, ◌∙◌, add-one, inl, inr, add-zero, mul-le-mul_right, suc-mul, arith}
+use Rattle.std.proofs.Math.Seq.{paste}
 use Rattle.std.proofs.lemmas.List.{length-set, get_or-set_other}
+use Rattle.std.proofs.lemmas.List.Edits.{fill_from_more, paste_none}
 use Rattle.std.proofs.lemmas.Bool.{cases_eq, cases_order}
 use Rattle.tables.specs.Book.{place, unset, cleared}
 
@@ -36,6 +38,16 @@ pub get_or_set_default : (xs : List ℕ) (k d : ℕ) → get_or (set xs k d) k d
 get_or_set_default [] k d = refl
 get_or_set_default (x ∷ xs) zero d = refl
 get_or_set_default (x ∷ xs) (suc k) d = get_or_set_default xs k d
+
+-- clearing pastes a run of unset targets
+pub cleared-paste : (xs : List ℕ) (k n : ℕ) → k + n ≤ length xs → cleared xs k n ≡ paste xs k (replicate n unset) n
+cleared-paste xs k zero l = paste_none xs k []
+cleared-paste xs k (suc n) l =
+    let before : k + n ≤ length xs = omega arith in
+    let inside : k + n < length xs = omega arith in
+    ap (λ ys. set ys (k + n) unset) (cleared-paste xs k n before)
+    ∙ fill_from_more xs k n unset inside
+    ∙ ap (λ m. paste xs k (replicate m unset) m) (add-one n)
 
 -- clearing keeps the length
 pub length_cleared : (xs : List ℕ) (k n : ℕ) → length (cleared xs k n) ≡ length xs

@@ -2,6 +2,7 @@
 use Rattle.std.proofs.Common.{◌≡◌, ℕ, suc, ◌<◌, ◌≤◌, Bool, true, false, ltb, List, [], ◌∷◌, length, drop, is_some, Some, None, Option, sym, refl, ap, ◌∙◌, ⊎_elim, arith}
 use Rattle.std.proofs.lemmas.List.{at_drop_all}
 use Rattle.std.proofs.lemmas.Bool.{cases_Bool, ltb-true, lt-ltb, and_from, cond-true, cond-false}
+use Rattle.std.specs.Bool.{then_some}
 use Rattle.weights.specs.Codes.{within}
 use Rattle.weights.specs.Group.{Group, Kind}
 use Rattle.weights.proofs.Groups.{one_right}
@@ -28,14 +29,21 @@ within_true b x e = cond-true b (Some x) None e
 pub some_injective : {X : Type 0} {x y : X} → Some x ≡ Some y → x ≡ y
 some_injective e = cc
 
--- an optional element that means something is there
-pub meant_there : {E : Type 0} (K : Kind E) (o : Option E) (m : K.group.Mean) → meant K o ≡ Some m → is_some o ≡ true
-meant_there K (Some x) m e = refl
-meant_there K None m e = absurd (let z : ◌≡◌ {A = ℕ} 0 1 = cc in omega arith)
+-- a value that a test gives or not means its meaning, given or not
+pub meant_then_some : {E : Type 0} (K : Kind E) (b : Bool) (x : E) → meant K (then_some b x) ≡ within b (K.mean x)
+meant_then_some K true x = refl
+meant_then_some K false x = refl
 
 -- a table has the arc of a state and a letter of its own
 pub arc_there : {M : Type 0} (t : Table M) (q a : ℕ) → q < t.states → a < t.letters → has_arc t q a ≡ true
 arc_there t q a hq ha = and_from (ltb q t.states) (ltb a t.letters) (lt-ltb q t.states hq) (lt-ltb a t.letters ha)
+
+-- where a run stands before letter i of a word, in state q with product k
+pub record Running (G : Group) (t : Table G.Mean) (w : List ℕ) (i q : ℕ) (k : G.Mean) : Type 0 where
+  pub in_range : i ≤ length w
+  pub inside : q < t.states
+  pub rest_is_word : no_letter_from t.letters i (drop i w) ≡ None
+  pub so_far : weight_of G t w ≡ scaled G k (weight_from G t q (drop i w))
 
 -- one letter more of a run: what is left weighs, after the product so far, as the whole
 pub run_more :

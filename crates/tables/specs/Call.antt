@@ -1,6 +1,7 @@
 -- The calls on an open book, and which of them are refused. Assumes nothing.
 use Rattle.std.specs.Prelude.{ℕ, ◌+◌, ◌*◌, Bool, ◌&&◌, Some, None, Option, ◌==◌, nat_le, nat_lt}
 use Rattle.weights.specs.Refusal.{Told, unless}
+use Rattle.tables.specs.Table.{is_letter_count}
 use Rattle.tables.specs.declared.call.Call.{Call}
 use Rattle.tables.specs.declared.call.Call.TheVariants.{Rule, State, Arc, Start}
 
@@ -12,6 +13,11 @@ pub record Size : Type 0 where
   pub letters : ℕ
   pub count : ℕ
 
+-- the memories have the places of all states
+abbrev pub has_places : Size → Bool
+has_places z =
+    nat_le (1 + z.count * z.letters) z.targets && (nat_le (1 + z.count * z.letters) z.weights && nat_le z.count z.marks)
+
 -- a state q of the book, and a letter a
 abbrev pub has_state : Size → ℕ → Bool
 has_state z q = nat_lt q z.count
@@ -21,14 +27,12 @@ has_letter z a = nat_lt a z.letters
 
 -- the letters may be set to s
 abbrev pub may_rule : Size → ℕ → Bool
-may_rule z s = z.count == 0 && (nat_lt 0 s && nat_le s 64)
+may_rule z s = z.count == 0 && is_letter_count s
 
 -- there is room for one more state
 abbrev pub has_room : Size → Bool
 has_room z =
-    nat_lt z.count 4095
-    && (nat_le (1 + (z.count + 1) * z.letters) z.targets
-    && (nat_le (1 + (z.count + 1) * z.letters) z.weights && nat_le (z.count + 1) z.marks))
+    nat_lt z.count 4095 && has_places (record { targets = z.targets; weights = z.weights; marks = z.marks; letters = z.letters; count = z.count + 1 })
 
 -- the refusal that a call meets, if any: the first in order
 abbrev pub verdict : {W : Type 0} → Size → Call W → Option Told

@@ -1,7 +1,10 @@
 -- What the memories of a sheet and of a book hold. Assumes nothing.
-use Rattle.std.specs.Prelude.{◌≡◌, ℕ, List}
+use Rattle.std.specs.Prelude.{◌≡◌, ℕ, List, Result}
 use Rattle.std.specs.Borrow.{MutBor}
-use Rattle.tables.specs.Book.{Contents}
+use Rattle.weights.specs.Refusal.{outcome}
+use Rattle.weights.specs.declared.refusal.Refusal.{Refusal}
+use Rattle.tables.specs.Book.{Contents, answer_to, left_by}
+use Rattle.tables.specs.declared.call.Call.{Call}
 use Rattle.tables.specs.declared.book.Book.{Book}
 use Rattle.tables.specs.declared.sheet.Sheet.{Sheet}
 
@@ -34,3 +37,9 @@ pub record Lent {W : Type 0} (ts : MutBor (List ℕ)) (ws : MutBor (List W)) (ms
 -- a book lies over the memories of another
 abbrev pub SameMemory : {W : Type 0} → Book W → Book W → Type 0
 SameMemory b c = Lent b.targets b.weights b.marks c
+
+-- what a call on a book comes to: its answer, what the book holds after it, and that it lies over the same memories
+pub record Makes {W : Type 0} (old new : Book W) (k : Call W) (r : Result (Unit {0}) Refusal) : Type 0 where
+  pub answer : outcome r ≡ answer_to (written old) k
+  pub after : written new ≡ left_by (written old) k
+  pub lent : SameMemory old new

@@ -1,22 +1,19 @@
 -- The table that a sheet means: what its three memories hold, and one state more. Assumes nothing.
-use Rattle.std.specs.Prelude.{ℕ, ◌+◌, ◌*◌, ◌%◌, ◌<◌, min, max, Bool, cond, ◌&&◌, List, map, None, Option, Result, ◌==◌, nat_le, nat_lt, slice_index, slice_index_or}
+use Rattle.std.specs.Prelude.{ℕ, ◌+◌, ◌%◌, ◌<◌, min, Bool, cond, ◌&&◌, List, map, None, Option, Result, ◌==◌, nat_le, nat_lt, slice_index, slice_index_or}
 use Rattle.std.proofs.Common.{arith}
 use Rattle.std.proofs.lemmas.Bool.{cond_both, ltb-true}
 use Rattle.weights.specs.Group.{Kind}
 use Rattle.weights.specs.Refusal.{Told, unless, judged}
-use Rattle.tables.specs.Table.{Table, Lawful}
-use Rattle.tables.specs.Call.{Size}
+use Rattle.tables.specs.Table.{Table, Lawful, is_letter_count, letters_read}
+use Rattle.tables.specs.Call.{Size, has_places}
 use Rattle.tables.specs.Book.{Contents, size_of, place, unset}
 
 -- the refusal that a sheet of those letters and states over memories of those lengths meets, if any
 abbrev pub sheet_verdict : Size → Option Told
 sheet_verdict z =
-    unless (nat_lt 0 z.letters && nat_le z.letters 64) 1
+    unless (is_letter_count z.letters) 1
     (unless (nat_le z.count 4095) 8
-    (unless
-    (nat_le (1 + z.count * z.letters) z.targets
-    && (nat_le (1 + z.count * z.letters) z.weights && nat_le z.count z.marks))
-    6 None))
+    (unless (has_places z) 6 None))
 
 -- what making a sheet of those contents answers
 abbrev pub sheet_of : {W : Type 0} → Contents W → Result (Contents W) Told
@@ -28,7 +25,7 @@ drawn c = min c.count 4095
 
 -- the letters, 1 to 64
 abbrev pub width : {W : Type 0} → Contents W → ℕ
-width c = max 1 (min c.letters 64)
+width c = letters_read c.letters
 
 -- the target at a place: unset where the place does not exist
 abbrev pub entry_at : {W : Type 0} → Contents W → ℕ → ℕ

@@ -1,5 +1,5 @@
 -- Complete deterministic tables over a group of weights, and what they weigh a word as. Assumes nothing.
-use Rattle.std.specs.Prelude.{◌≡◌, ℕ, suc, ◌<◌, ◌≤◌, min, max, Bool, cond, ◌&&◌, List, [], ◌∷◌, Some, None, Option, Result, nat_lt}
+use Rattle.std.specs.Prelude.{◌≡◌, ℕ, suc, ◌<◌, ◌≤◌, min, max, Bool, cond, ◌&&◌, List, [], ◌∷◌, Some, None, Option, Result, nat_le, nat_lt}
 use Rattle.weights.specs.Group.{Group, Kind}
 use Rattle.weights.specs.Codes.{within}
 use Rattle.weights.specs.Refusal.{Told, indexed, judged}
@@ -13,6 +13,10 @@ pub record Table (M : Type 0) : Type 0 where
   pub final : ℕ → Bool
   pub target : ℕ → ℕ → ℕ
   pub weight : ℕ → ℕ → M
+
+-- a table may have s letters
+abbrev pub is_letter_count : ℕ → Bool
+is_letter_count s = nat_lt 0 s && nat_le s 64
 
 -- a count of letters, read as one that a table may have
 abbrev pub letters_read : ℕ → ℕ

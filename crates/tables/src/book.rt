@@ -1,15 +1,17 @@
 ghost use Rattle.std.specs.Prelude.{◌≡◌};
-ghost use Rattle.weights.specs.Refusal.{outcome};
-ghost use Rattle.tables.specs.Book.{opened, answer_to, left_by};
-ghost use Rattle.tables.specs.Held.{held, written, Lent, SameMemory};
+ghost use Rattle.tables.specs.Book.{opened, size_of};
+ghost use Rattle.tables.specs.Call.{has_room};
+ghost use Rattle.tables.specs.Held.{held, written, Lent, Makes};
 ghost use Rattle.tables.specs.declared.call.Call.TheVariants.{Rule, State, Arc, Start};
 
 use crate::call::Call;
-use crate::memory::{UNSET, arc_place, clear, put};
+use crate::memory::{UNSET, arc_place, clear, has_places, put};
 use crate::sheet::Sheet;
+use crate::words::is_letter_count;
 use weights::{Refusal, Weight};
 
-// A table that is being drawn into three memories.
+// A table that is being drawn into three memories. That they come one by one, and that there is no invariant, is a rule of the
+// project, and so for a sheet; a `Model` would hide over which memories the book lies.
 #[derive(Drop)]
 pub struct Book<'a, W> {
     targets: &'a mut [u16],
@@ -37,17 +39,9 @@ impl<'a, W: Weight> Book<'a, W> {
 
     // Sets the letters, while there are no states; 1 to 64, else refused by 1.
     pub fn rule(&mut self, letters: u8) -> Result<(), Refusal>
-        ensures answer { outcome result ≡ answer_to (written self.old) (Rule letters) }
-        ensures after { written self.new ≡ left_by (written self.old) (Rule letters) }
-        ensures lent { SameMemory self.old self.new }
+        ensures { Makes self.old self.new (Rule letters) result }
     {
-        if self.count > 0 {
-            return Err(Refusal::Letters);
-        }
-        if letters == 0 {
-            return Err(Refusal::Letters);
-        }
-        if letters > 64 {
+        if self.count > 0 || !is_letter_count(letters) {
             return Err(Refusal::Letters);
         }
         self.letters = letters;
@@ -56,37 +50,37 @@ impl<'a, W: Weight> Book<'a, W> {
 
     // Adds the next state, with no arc set. Refused by 5 where there are 4,095 states or a memory is too short for one more.
     pub fn state(&mut self, accepting: bool) -> Result<(), Refusal>
-        ensures answer { outcome result ≡ answer_to (written self.old) (State accepting) }
-        ensures after { written self.new ≡ left_by (written self.old) (State accepting) }
-        ensures lent { SameMemory self.old self.new }
+        ensures { Makes self.old self.new (State accepting) result }
     {
         let count = self.count;
         let letters = self.letters;
-        if count >= 4095 {
+        if !self.has_room() {
             return Err(Refusal::NoRoom);
         }
-        let places = arc_place(letters, count + 1, 0);
-        if self.targets.len() < places {
-            return Err(Refusal::NoRoom);
-        }
-        if self.weights.len() < places {
-            return Err(Refusal::NoRoom);
-        }
-        if self.marks.len() < count as usize + 1 {
-            return Err(Refusal::NoRoom);
-        }
-        clear(self.targets, arc_place(letters, count, 0), letters);
-        let mark = if accepting { 1 } else { 0 };
-        put(self.marks, count as usize, &mark);
+        let row = arc_place(letters, count, 0);
+        clear(self.targets, row, usize::from(letters));
+        put(self.marks, usize::from(count), &u8::from(accepting));
         self.count = count + 1;
         Ok(())
     }
 
+    // Whether there is room for one more state.
+    fn has_room(&self) -> bool
+        ensures { result ≡ has_room (size_of (written self.now)) }
+    {
+        self.count < 4095
+            && has_places(
+                self.targets,
+                self.weights,
+                self.marks,
+                self.letters,
+                self.count + 1,
+            )
+    }
+
     // Sets one arc. Refused: a state that is not in the book by 2, a letter by 3, then a target that is not in the book by 2.
     pub fn arc(&mut self, from: u16, letter: u8, to: u16, weight: W) -> Result<(), Refusal>
-        ensures answer { outcome result ≡ answer_to (written self.old) (Arc from letter to weight) }
-        ensures after { written self.new ≡ left_by (written self.old) (Arc from letter to weight) }
-        ensures lent { SameMemory self.old self.new }
+        ensures { Makes self.old self.new (Arc from letter to weight) result }
     {
         if from >= self.count {
             return Err(Refusal::NoState);
@@ -105,9 +99,7 @@ impl<'a, W: Weight> Book<'a, W> {
 
     // Sets the start. Refused by 2 where the state is not in the book.
     pub fn start(&mut self, state: u16, weight: W) -> Result<(), Refusal>
-        ensures answer { outcome result ≡ answer_to (written self.old) (Start state weight) }
-        ensures after { written self.new ≡ left_by (written self.old) (Start state weight) }
-        ensures lent { SameMemory self.old self.new }
+        ensures { Makes self.old self.new (Start state weight) result }
     {
         if state >= self.count {
             return Err(Refusal::NoState);
@@ -140,9 +132,7 @@ impl<'a, W: Weight> Book<'a, W> {
 
 // Makes one call on the book.
 pub fn make<W: Weight>(book: &mut Book<'_, W>, call: Call<W>) -> Result<(), Refusal>
-    ensures answer { outcome result ≡ answer_to (written book.old) call }
-    ensures after { written book.new ≡ left_by (written book.old) call }
-    ensures lent { SameMemory book.old book.new }
+    ensures { Makes book.old book.new call result }
 {
     match call {
         Call::Rule { letters } => book.rule(letters),

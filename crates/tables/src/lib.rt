@@ -10,7 +10,7 @@ mod words;
 
 pub use book::{Book, make};
 pub use call::Call;
-pub use memory::byte_in;
+pub use memory::get_or;
 pub use sheet::Sheet;
 pub use source::Source;
-pub use words::{first_no_letter, weigh};
+pub use words::{first_no_letter, is_letter_count, letters_read, weigh};

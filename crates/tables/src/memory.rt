@@ -1,5 +1,6 @@
-ghost use Rattle.std.specs.Prelude.{◌≡◌, ◌+◌, ◌^◌, ◌<◌, slice_index, slice_index_or, slice_set};
-ghost use Rattle.tables.specs.Book.{cleared, place, unset};
+ghost use Rattle.std.specs.Prelude.{◌≡◌, ◌+◌, ◌≤◌, length, slice_index_or, slice_set};
+ghost use Rattle.tables.specs.Book.{cleared, laid, place, size_of};
+ghost use Rattle.tables.specs.Call.{has_places};
 ghost use Rattle.tables.specs.Sheet.{mean_at};
 
 use weights::Weight;
@@ -11,7 +12,7 @@ pub(crate) const UNSET: u16 = 65535;
 pub(crate) fn arc_place(letters: u8, state: u16, letter: u8) -> usize
     ensures { result ≡ place letters state letter }
 {
-    1 + state as usize * letters as usize + letter as usize
+    1 + usize::from(state) * usize::from(letters) + usize::from(letter)
 }
 
 // Writes a place, if it exists.
@@ -23,48 +24,38 @@ pub(crate) fn put<T: Copy>(memory: &mut [T], at: usize, value: &T)
     }
 }
 
-// The target at a place, unset where the place does not exist.
-pub(crate) fn target_in(targets: &[u16], at: usize) -> u16
-    ensures { result ≡ slice_index_or targets.now at unset }
+// The value at a place, or another where the place does not exist.
+pub fn get_or<T: Copy>(memory: &[T], at: usize, default: &T) -> T
+    ensures { result ≡ slice_index_or memory.now at default.now }
 {
-    if at < targets.len() {
-        targets[at]
-    } else {
-        UNSET
-    }
-}
-
-// The mark at a place, 0 where the place does not exist.
-pub(crate) fn mark_in(marks: &[u8], at: usize) -> u8
-    ensures { result ≡ slice_index marks.now at }
-{
-    if at < marks.len() { marks[at] } else { 0 }
-}
-
-// The byte at a place, 0 where the place does not exist.
-pub fn byte_in(bytes: &[u8], at: usize) -> u8
-    ensures { result ≡ slice_index bytes.now at }
-{
-    if at < bytes.len() { bytes[at] } else { 0 }
+    memory.get(at).copied().unwrap_or(*default)
 }
 
 // The element at a place, one where the place does not exist.
 pub(crate) fn element_in<W: Weight>(elements: &[W], at: usize) -> W
     ensures { W.kind.mean result ≡ mean_at W.kind elements.now at }
 {
-    if at < elements.len() {
-        elements[at]
-    } else {
-        W::one()
-    }
+    get_or(elements, at, &W::one())
 }
 
-// Makes that many places unset, as far as they exist.
-pub(crate) fn clear(targets: &mut [u16], from: usize, count: u8)
-    requires { from + count < 2 ^ 64 }
+// Whether three memories have the places of so many states. They come apart, as `Book` and `Sheet` hold them.
+pub(crate) fn has_places<W>(
+    targets: &[u16],
+    weights: &[W],
+    marks: &[u8],
+    letters: u8,
+    states: u16,
+) -> bool
+    ensures { result ≡ has_places (size_of (laid targets.now weights.now marks.now letters states)) }
+{
+    let places = arc_place(letters, states, 0);
+    targets.len() >= places && weights.len() >= places && marks.len() >= usize::from(states)
+}
+
+// Makes that many places unset.
+pub(crate) fn clear(targets: &mut [u16], from: usize, count: usize)
+    requires { from + count ≤ length targets.old }
     ensures { targets.new ≡ cleared targets.old from count }
 {
-    for i in 0..count {
-        put(targets, from + i as usize, &UNSET);
-    }
+    targets[from..from + count].fill(UNSET);
 }

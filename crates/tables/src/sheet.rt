@@ -1,14 +1,16 @@
-ghost use Rattle.std.specs.Prelude.{◌≡◌};
+ghost use Rattle.std.specs.Prelude.{◌≡◌, ◌==◌};
 ghost use Rattle.weights.specs.Refusal.{outcome_as};
 ghost use Rattle.tables.specs.Book.{laid};
 ghost use Rattle.tables.specs.Held.{held};
+ghost use Rattle.tables.specs.Table.{has_arc};
 ghost use Rattle.tables.specs.Sheet.{sheet_of, drawn, width, led_to, led_by, sheet_table, sheet_lawful};
 
-use crate::memory::{arc_place, element_in, mark_in, target_in};
+use crate::memory::{UNSET, arc_place, element_in, get_or, has_places};
 use crate::source::Source;
+use crate::words::{is_letter_count, letters_read};
 use weights::{Refusal, Weight};
 
-// A table that three memories hold in the layout of a book. Each of its counts and lengths is checked where an arc is read.
+// A table that three memories hold in the layout of a book; three slices and two counts, as with a book a rule of the project. Each of its counts and lengths is checked where an arc is read.
 #[derive(Drop)]
 pub struct Sheet<'a, W> {
     pub(crate) targets: &'a [u16],
@@ -29,23 +31,13 @@ impl<'a, W: Weight> Sheet<'a, W> {
     ) -> Result<Sheet<'a, W>, Refusal>
         ensures { outcome_as held result ≡ sheet_of (laid targets.now weights.now marks.now letters states) }
     {
-        if letters == 0 {
-            return Err(Refusal::Letters);
-        }
-        if letters > 64 {
+        if !is_letter_count(letters) {
             return Err(Refusal::Letters);
         }
         if states > 4095 {
             return Err(Refusal::StateCount);
         }
-        let places = arc_place(letters, states, 0);
-        if targets.len() < places {
-            return Err(Refusal::ShortMemory);
-        }
-        if weights.len() < places {
-            return Err(Refusal::ShortMemory);
-        }
-        if marks.len() < states as usize {
+        if !has_places(targets, weights, marks, letters, states) {
             return Err(Refusal::ShortMemory);
         }
         Ok(Sheet {
@@ -64,32 +56,35 @@ impl<'a, W: Weight> Sheet<'a, W> {
         self.count.min(4095)
     }
 
-    // How many letters there are.
-    fn used_letters(&self) -> u8
-        ensures { result ≡ width (held self.now) }
+    // Whether a state and a letter are of the table.
+    fn has_arc(&self, state: u16, letter: u8) -> bool
+        ensures { result ≡ has_arc (sheet_table W.kind (held self.now)) state letter }
     {
-        self.letters.min(64).max(1)
+        state <= self.drawn_states() && letter < self.letters()
+    }
+
+    // Whether a state is the off state.
+    fn is_off(&self, state: u16) -> bool
+        ensures { result ≡ (state == drawn (held self.now)) }
+    {
+        state == self.drawn_states()
     }
 
     // Where the place leads: to the off state if to no state that is drawn.
     fn led_to(&self, at: usize) -> u16
         ensures { result ≡ led_to (held self.now) at }
     {
-        let to = target_in(self.targets, at);
-        let drawn = self.drawn_states();
-        if to < drawn { to } else { drawn }
+        get_or(self.targets, at, &UNSET).min(self.drawn_states())
     }
 
     // With which weight the place leads.
     fn led_by(&self, at: usize) -> W
         ensures { W.kind.mean result ≡ led_by W.kind (held self.now) at }
     {
-        let to = target_in(self.targets, at);
-        let drawn = self.drawn_states();
-        if to < drawn {
-            element_in(self.weights, at)
-        } else {
+        if self.is_off(self.led_to(at)) {
             W::one()
+        } else {
+            element_in(self.weights, at)
         }
     }
 }
@@ -104,7 +99,7 @@ impl<W: Weight> Source<W> for Sheet<'_, W> {
     }
 
     fn letters(&self) -> u8 {
-        self.used_letters()
+        letters_read(self.letters)
     }
 
     fn start(&self) -> u16 {
@@ -120,39 +115,26 @@ impl<W: Weight> Source<W> for Sheet<'_, W> {
         if state > drawn {
             return None;
         }
-        if state == drawn {
-            return Some(false);
-        }
-        Some(mark_in(self.marks, state as usize) % 2 == 1)
+        Some(state < drawn && get_or(self.marks, usize::from(state), &0) % 2 == 1)
     }
 
     fn target(&self, state: u16, letter: u8) -> Option<u16> {
-        let drawn = self.drawn_states();
-        let letters = self.used_letters();
-        if state > drawn {
+        if !self.has_arc(state, letter) {
             return None;
         }
-        if letter >= letters {
-            return None;
+        if self.is_off(state) {
+            return Some(state);
         }
-        if state == drawn {
-            return Some(drawn);
-        }
-        Some(self.led_to(arc_place(letters, state, letter)))
+        Some(self.led_to(arc_place(self.letters(), state, letter)))
     }
 
     fn weight(&self, state: u16, letter: u8) -> Option<W> {
-        let drawn = self.drawn_states();
-        let letters = self.used_letters();
-        if state > drawn {
+        if !self.has_arc(state, letter) {
             return None;
         }
-        if letter >= letters {
-            return None;
-        }
-        if state == drawn {
+        if self.is_off(state) {
             return Some(W::one());
         }
-        Some(self.led_by(arc_place(letters, state, letter)))
+        Some(self.led_by(arc_place(self.letters(), state, letter)))
     }
 }

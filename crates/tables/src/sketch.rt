@@ -12,6 +12,7 @@ use crate::call::Call;
 use crate::sheet::Sheet;
 use weights::{Refusal, Weight};
 
+// Three memories, as `Book::open` takes them.
 fn open_in_step<'a, W: Weight>(
     targets: &'a mut [u16],
     weights: &'a mut [W],

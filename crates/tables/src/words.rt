@@ -1,27 +1,34 @@
-ghost use Rattle.std.specs.Prelude.{◌≡◌, None, nat_lt};
+ghost use Rattle.std.specs.Prelude.{◌≡◌, None};
 ghost use Rattle.weights.specs.Refusal.{outcome_as};
-ghost use Rattle.tables.specs.Table.{no_letter_from, weight_of, weighing, meant};
+ghost use Rattle.tables.specs.Table.{is_letter_count, letters_read, no_letter_from, weight_of, weighing, meant};
 
 use crate::source::Source;
 use weights::{Refusal, Weight};
 
-// The index of the first byte that is no letter, of so many.
+// Whether a table may have so many letters.
+pub fn is_letter_count(count: u8) -> bool
+    ensures { result ≡ is_letter_count count }
+{
+    (1..=64).contains(&count)
+}
+
+// A count of letters, read as one that a table may have.
+pub fn letters_read(count: u8) -> u8
+    ensures { result ≡ letters_read count }
+{
+    count.clamp(1, 64)
+}
+
+// The index of the first byte that is no letter, of so many. A loop with an index is the form that a rule of the project sets here.
 pub fn first_no_letter(word: &[u8], letters: u8) -> Option<usize>
     ensures { result ≡ no_letter_from letters 0 word.now }
 {
     for (i, byte) in word.iter().enumerate() {
-        if !is_letter(*byte, letters) {
+        if *byte >= letters {
             return Some(i);
         }
     }
     None
-}
-
-// Whether a byte is one of so many letters.
-fn is_letter(byte: u8, letters: u8) -> bool
-    ensures { result ≡ nat_lt byte letters }
-{
-    byte < letters
 }
 
 // The weight of a word whose bytes all are letters.
@@ -35,11 +42,7 @@ fn run<W: Weight, S: Source<W>>(source: &S, word: &[u8]) -> Option<W>
         product = product.times(source.weight(state, *letter).unwrap());
         state = source.target(state, *letter).unwrap();
     }
-    if source.is_final(state).unwrap() {
-        Some(product)
-    } else {
-        None
-    }
+    source.is_final(state).unwrap().then_some(product)
 }
 
 // The weight of a word, or none; a byte that is no letter is refused by 3, with the index of the first such byte.
