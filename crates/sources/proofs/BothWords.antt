@@ -1,13 +1,11 @@
 -- What two sources side by side weigh a word as. Assumes nothing; that the group commutes is a premise.
-use Rattle.std.proofs.Common.{◌≡◌, ℕ, ◌+◌, ◌*◌, ◌/◌, ◌<◌, Bool, true, false, ◌&&◌, List, [], ◌∷◌, Some, None, Option, sym, refl, ap, ◌∙◌, subst}
+use Rattle.std.proofs.Common.{◌≡◌, ℕ, ◌+◌, ◌*◌, ◌/◌, ◌<◌, Bool, true, false, ◌&&◌, List, [], ◌∷◌, Some, None, Option, sym, refl, ap, ◌∙◌, subst, arith}
 use Rattle.std.proofs.lemmas.Nat.{div-mul-add, mod-mul-add}
-use Rattle.std.proofs.lemmas.Bool.{and_from, eqb-true}
+use Rattle.std.proofs.lemmas.Bool.Decides.{nat_tests}
 use Rattle.weights.specs.Codes.{within}
 use Rattle.weights.specs.Group.{Group, Commutes}
-use Rattle.weights.specs.Refusal.{unless}
-use Rattle.weights.proofs.Judging.{unless_none}
 use Rattle.tables.specs.Table.{Table, Lawful, Word, scaled, weight_from, weight_of}
-use Rattle.sources.specs.Both.{same_letters, few_pairs, both_verdict, joins, product_table, chosen, both_table, multiplied, WeighsAsProduct}
+use Rattle.sources.specs.Both.{both_verdict, joins, product_table, chosen, both_table, multiplied, WeighsAsProduct}
 
 module _ (G : Group) (commutes : Commutes G) where
   -- the inner factors of two products change places
@@ -59,10 +57,8 @@ module _ (G : Group) (commutes : Commutes G) where
   -- sources that are joined weigh as told
   pub both_weighs :
       (t u : Table G.Mean) → Lawful u → both_verdict t u ≡ None → WeighsAsProduct G t u (both_table G t u)
-  both_weighs t u l e =
-      let h = unless_none (same_letters t u) 9 (unless (few_pairs t u) 8 None) e in
-      let few = (unless_none (few_pairs t u) 8 None h.1).0 in
-      let same : t.letters ≡ u.letters = eqb-true t.letters u.letters h.0 in
-      let joined : joins t u ≡ true = and_from (same_letters t u) (few_pairs t u) h.0 few in
+  both_weighs t u l none =
+      let same : t.letters ≡ u.letters = grind (arith, nat_tests) in
+      let joined : joins t u ≡ true = grind (arith, nat_tests) in
       subst (λ b. WeighsAsProduct G t u (chosen b (product_table G t u) t)) (sym joined)
       (record { left = refl; right = same; words = product_words t u l same })

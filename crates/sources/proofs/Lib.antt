@@ -1,4 +1,3 @@
 mod RingWords
-mod Packing
 mod FoldWords
 mod BothWords

@@ -1,10 +1,10 @@
 -- A fold of a source over a list of its letters: letter a acts as the one at place a. Assumes nothing.
-use Rattle.std.specs.Prelude.{◌≡◌, ℕ, ◌<◌, cond, ◌&&◌, List, map, length, Option, nat_le, nat_lt, slice_index}
+use Rattle.std.specs.Prelude.{◌≡◌, ℕ, ◌<◌, cond, List, map, length, Option, nat_lt, slice_index}
 use Rattle.std.proofs.Common.{arith}
 use Rattle.std.proofs.lemmas.Bool.{cond_both, ltb-true}
 use Rattle.weights.specs.Group.{Group}
 use Rattle.weights.specs.Refusal.{Told, unless}
-use Rattle.tables.specs.Table.{Table, Lawful, Word, weight_of, word_verdict, letters_read}
+use Rattle.tables.specs.Table.{Table, Lawful, Word, weight_of, word_verdict, is_letter_count, letters_read}
 use Rattle.sources.specs.LetterMap.{letter_at, letters_of}
 use Rattle.sources.specs.declared.fold.Fold.{Fold}
 use Rattle.sources.specs.declared.letters.LetterMap.{LetterMap}
@@ -12,7 +12,7 @@ use Rattle.sources.specs.declared.letters.LetterMap.{LetterMap}
 -- the refusal that folding a source of s letters over a list meets, if any: the first of the list that is no letter of the
 -- source is told by its place
 abbrev pub fold_verdict : ℕ → List ℕ → Option Told
-fold_verdict s xs = unless (nat_lt 0 (length xs) && nat_le (length xs) 64) 1 (word_verdict s xs)
+fold_verdict s xs = unless (is_letter_count (length xs)) 1 (word_verdict s xs)
 
 -- the letters of a fold, 1 to 64, whatever it holds
 abbrev pub fold_letters : {S : Type 0} → Fold S → ℕ

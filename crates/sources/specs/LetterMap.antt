@@ -19,7 +19,7 @@ eight m j =
     (cond (j == 6) m.places_48 m.places_56))))))
 
 -- the letter at place k
-unfoldable pub letter_at : LetterMap → ℕ → ℕ
+abbrev pub letter_at : LetterMap → ℕ → ℕ
 letter_at m k = byte_of (eight m (k / 8)) (k % 8)
 
 -- the first n letters

@@ -5,12 +5,12 @@ use Rattle.std.proofs.lemmas.Bool.{cond_both, ltb-true}
 use Rattle.weights.specs.Codes.{within}
 use Rattle.weights.specs.Group.{Group, Kind}
 use Rattle.weights.specs.Refusal.{Told, unless}
-use Rattle.tables.specs.Table.{Table, Lawful, Word, weight_of, letters_read}
+use Rattle.tables.specs.Table.{Table, Lawful, Word, weight_of, is_letter_count, letters_read}
 use Rattle.sources.specs.declared.ring.Ring.{Ring}
 
 -- the refusal that a ring of n states and s letters meets, if any
 abbrev pub ring_verdict : ℕ → ℕ → Option Told
-ring_verdict n s = unless (nat_lt 0 s && nat_le s 64) 1 (unless (nat_lt 0 n && nat_le n 4096) 8 None)
+ring_verdict n s = unless (is_letter_count s) 1 (unless (nat_lt 0 n && nat_le n 4096) 8 None)
 
 -- the states of a ring, 1 to 4096, and its letters, 1 to 64, whatever it holds
 abbrev pub ring_states : {W : Type 0} → Ring W → ℕ

@@ -30,28 +30,32 @@ impl<L: Drop, R: Drop> Both<L, R> {
         ensures weighs { IfOk result (λ b. WeighsAsProduct W.kind.group (L.table left W.kind) (R.table right W.kind) (both_table W.kind.group (L.table b.left W.kind) (R.table b.right W.kind))) }
     {
         W::commutes();
-        match sizes(&left, &right) {
-            Ok(_) => Ok(Both { left, right }),
-            Err(refusal) => Err(refusal),
-        }
+        let both = Both { left, right };
+        both.sizes()?;
+        Ok(both)
     }
 }
 
-// The states of two sources, or why these cannot be joined.
-fn sizes<W: Weight, L: Source<W>, R: Source<W>>(left: &L, right: &R) -> Result<Sides, Refusal>
-    ensures { outcome result ≡ judged (both_verdict (L.table left.now W.kind) (R.table right.now W.kind)) (record { left = (L.table left.entry.now W.kind).states; right = (R.table right.now W.kind).states }) }
-{
-    if left.letters() != right.letters() {
-        return Err(Refusal::UnequalLetters);
+impl<L, R> Both<L, R> {
+    // The states of the two sources, or why these cannot be joined.
+    fn sizes<W: Weight>(&self) -> Result<Sides, Refusal>
+    where
+        L: Source<W>,
+        R: Source<W>,
+        ensures { outcome result ≡ judged (both_verdict (L.table self.now.left W.kind) (R.table self.now.right W.kind)) (record { left = (L.table self.now.left W.kind).states; right = (R.table self.now.right W.kind).states }) }
+    {
+        if self.left.letters() != self.right.letters() {
+            return Err(Refusal::UnequalLetters);
+        }
+        let sizes = Sides {
+            left: self.left.states(),
+            right: self.right.states(),
+        };
+        if u32::from(sizes.left) * u32::from(sizes.right) > 4096 {
+            return Err(Refusal::StateCount);
+        }
+        Ok(sizes)
     }
-    let sizes = Sides {
-        left: left.states(),
-        right: right.states(),
-    };
-    if sizes.left as u32 * sizes.right as u32 > 4096 {
-        return Err(Refusal::StateCount);
-    }
-    Ok(sizes)
 }
 
 // The number of a pair of states, among the pairs of so many.
@@ -85,7 +89,7 @@ impl<W: Weight, L: Source<W>, R: Source<W>> Source<W> for Both<L, R> {
     ghost lawful = { λ b K. both_lawful K.group (L.table b.left K) (R.table b.right K) (L.lawful b.left K) (R.lawful b.right K) };
 
     fn states(&self) -> u16 {
-        match sizes(&self.left, &self.right) {
+        match self.sizes() {
             Ok(sizes) => sizes.left * sizes.right,
             Err(_) => self.left.states(),
         }
@@ -96,37 +100,35 @@ impl<W: Weight, L: Source<W>, R: Source<W>> Source<W> for Both<L, R> {
     }
 
     fn start(&self) -> u16 {
-        match sizes(&self.left, &self.right) {
-            Ok(sizes) => {
-                let start = Sides {
-                    left: self.left.start(),
-                    right: self.right.start(),
-                };
-                join(start, sizes)
-            }
-            Err(_) => self.left.start(),
-        }
+        let Ok(sizes) = self.sizes() else {
+            return self.left.start();
+        };
+        let start = Sides {
+            left: self.left.start(),
+            right: self.right.start(),
+        };
+        join(start, sizes)
     }
 
     fn start_weight(&self) -> W {
-        match sizes(&self.left, &self.right) {
-            Ok(_) => self.left.start_weight().times(self.right.start_weight()),
-            Err(_) => self.left.start_weight(),
+        if self.sizes().is_err() {
+            return self.left.start_weight();
         }
+        self.left.start_weight().times(self.right.start_weight())
     }
 
     fn is_final(&self, state: u16) -> Option<bool> {
-        let Ok(sizes) = sizes(&self.left, &self.right) else {
+        let Ok(sizes) = self.sizes() else {
             return self.left.is_final(state);
         };
         let states = split(state, sizes)?;
         let left = self.left.is_final(states.left)?;
         let right = self.right.is_final(states.right)?;
-        Some(left & right)
+        Some(left && right)
     }
 
     fn target(&self, state: u16, letter: u8) -> Option<u16> {
-        let Ok(sizes) = sizes(&self.left, &self.right) else {
+        let Ok(sizes) = self.sizes() else {
             return self.left.target(state, letter);
         };
         let states = split(state, sizes)?;
@@ -138,7 +140,7 @@ impl<W: Weight, L: Source<W>, R: Source<W>> Source<W> for Both<L, R> {
     }
 
     fn weight(&self, state: u16, letter: u8) -> Option<W> {
-        let Ok(sizes) = sizes(&self.left, &self.right) else {
+        let Ok(sizes) = self.sizes() else {
             return self.left.weight(state, letter);
         };
         let states = split(state, sizes)?;

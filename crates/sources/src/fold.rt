@@ -1,42 +1,19 @@
-ghost use Rattle.std.specs.Prelude.{◌≡◌, IfOk};
-ghost use Rattle.std.specs.Option.{option_map};
-ghost use Rattle.weights.specs.Refusal.{outcome_as, judged, told};
+ghost use Rattle.std.specs.Prelude.{◌≡◌, IfOk, nat_lt};
+ghost use Rattle.weights.specs.Codes.{within};
+ghost use Rattle.weights.specs.Refusal.{outcome_as, judged};
 ghost use Rattle.sources.specs.Fold.{fold_verdict, fold_letters, acts_as, fold_table, fold_lawful, folding, WeighsAsImage};
 
 use crate::letters::LetterMap;
-use tables::{Source, first_no_letter};
+use tables::{Source, first_no_letter, letters_read};
 use weights::{Refusal, Weight};
 
-// A source with letters of its own, each of which acts as one of the source's. What it holds is checked where a question is asked.
+// A source with letters of its own, each of which acts as one of the source's. What it holds is checked where a question is asked. The
+// count stands beside the map, which is a plain map of 64 places: a rule of the project.
 #[derive(Drop)]
 pub struct Fold<S> {
     source: S,
     map: LetterMap,
     letters: u8,
-}
-
-// The letter, of so many, that a letter acts as.
-fn image(map: &LetterMap, letters: u8, letter: u8) -> u8
-    ensures { result ≡ acts_as map.now letters letter }
-{
-    let image = map.letter(letter);
-    if image < letters { image } else { 0 }
-}
-
-// Why a source of that many letters is not folded over a list, if it is not.
-fn refusal(of: u8, letters: &[u8]) -> Option<Refusal>
-    ensures { option_map told result ≡ fold_verdict of letters.now }
-{
-    if letters.is_empty() {
-        return Some(Refusal::Letters);
-    }
-    if letters.len() > 64 {
-        return Some(Refusal::Letters);
-    }
-    match first_no_letter(letters, of) {
-        Some(index) => Some(Refusal::NoLetterAt(index)),
-        None => None,
-    }
 }
 
 impl<S: Drop> Fold<S> {
@@ -48,23 +25,34 @@ impl<S: Drop> Fold<S> {
         ensures answer { outcome_as folding result ≡ judged (fold_verdict (S.table source W.kind).letters letters.now) (record { source = source; letters = letters.now }) }
         ensures weighs { IfOk result (λ f. WeighsAsImage W.kind.group letters.now (S.table source W.kind) (fold_table (S.table source W.kind) f)) }
     {
-        match refusal(source.letters(), letters) {
-            Some(refusal) => Err(refusal),
-            None => Ok(Fold {
-                source,
-                map: LetterMap::of(letters),
-                letters: letters.len() as u8,
-            }),
+        if !(1..=64).contains(&letters.len()) {
+            return Err(Refusal::Letters);
         }
+        if let Some(index) = first_no_letter(letters, source.letters()) {
+            return Err(Refusal::NoLetterAt(index));
+        }
+        Ok(Fold {
+            source,
+            map: LetterMap::of(letters),
+            // at most 64, so `as` fits where a `try_from` could fail
+            letters: letters.len() as u8,
+        })
     }
 }
 
 impl<S> Fold<S> {
-    // How many letters there are.
-    fn used_letters(&self) -> u8
-        ensures { result ≡ fold_letters self.now }
+    // The letter of the source that a letter of the fold acts as.
+    fn image<W: Weight>(&self, letter: u8) -> Option<u8>
+    where
+        S: Source<W>,
+        ensures { result ≡ within (nat_lt letter (fold_letters self.now)) (acts_as self.now.map (S.table self.now.source W.kind).letters letter) }
     {
-        self.letters.min(64).max(1)
+        if letter >= self.letters() {
+            return None;
+        }
+        let letters = self.source.letters();
+        let image = self.map.letter(letter);
+        Some(if image < letters { image } else { 0 })
     }
 }
 
@@ -78,7 +66,7 @@ impl<W: Weight, S: Source<W>> Source<W> for Fold<S> {
     }
 
     fn letters(&self) -> u8 {
-        self.used_letters()
+        letters_read(self.letters)
     }
 
     fn start(&self) -> u16 {
@@ -94,18 +82,12 @@ impl<W: Weight, S: Source<W>> Source<W> for Fold<S> {
     }
 
     fn target(&self, state: u16, letter: u8) -> Option<u16> {
-        if letter >= self.used_letters() {
-            return None;
-        }
-        self.source
-            .target(state, image(&self.map, self.source.letters(), letter))
+        let image = self.image(letter)?;
+        self.source.target(state, image)
     }
 
     fn weight(&self, state: u16, letter: u8) -> Option<W> {
-        if letter >= self.used_letters() {
-            return None;
-        }
-        self.source
-            .weight(state, image(&self.map, self.source.letters(), letter))
+        let image = self.image(letter)?;
+        self.source.weight(state, image)
     }
 }

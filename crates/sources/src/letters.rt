@@ -1,9 +1,11 @@
 ghost use Rattle.std.specs.Prelude.{◌≡◌, ℕ, ◌+◌, ◌<◌, slice_index};
 ghost use Rattle.sources.specs.LetterMap.{byte_of, eight, letter_at};
 
-use tables::byte_in;
+use std::array;
+use tables::get_or;
 
-// Up to 64 letters, a byte each, eight to a number.
+// Up to 64 letters, a byte each, eight to a number. Eight fields and no array: a rule of the project, so that a fold may stand in a
+// `Result`.
 #[derive(Clone, Copy)]
 pub(crate) struct LetterMap {
     places_0: u64,
@@ -21,14 +23,7 @@ fn pack(letters: &[u8], from: usize) -> u64
     requires { from < 64 }
     ensures { (k : ℕ) → k < 8 → byte_of result k ≡ slice_index letters.now (from + k) }
 {
-    byte_in(letters, from) as u64
-        + 256 * byte_in(letters, from + 1) as u64
-        + 65536 * byte_in(letters, from + 2) as u64
-        + 16777216 * byte_in(letters, from + 3) as u64
-        + 4294967296 * byte_in(letters, from + 4) as u64
-        + 1099511627776 * byte_in(letters, from + 5) as u64
-        + 281474976710656 * byte_in(letters, from + 6) as u64
-        + 72057594037927936 * byte_in(letters, from + 7) as u64
+    u64::from_le_bytes(array::from_fn(|k| get_or(letters, from + k, &0)))
 }
 
 impl LetterMap {
@@ -68,6 +63,6 @@ impl LetterMap {
     pub(crate) fn letter(&self, at: u8) -> u8
         ensures { result ≡ letter_at self.now at }
     {
-        ((self.eight(at / 8) >> (8 * (at % 8))) % 256) as u8
+        self.eight(at / 8).to_le_bytes()[usize::from(at) % 8]
     }
 }

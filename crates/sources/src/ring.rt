@@ -1,8 +1,9 @@
-ghost use Rattle.std.specs.Prelude.{◌≡◌, IfOk};
+ghost use Rattle.std.specs.Prelude.{◌≡◌, ◌<◌, IfOk};
 ghost use Rattle.weights.specs.Refusal.{outcome, judged};
-ghost use Rattle.sources.specs.Ring.{ring_verdict, ring_states, ring_letters, ring_table, ring_lawful, WeighsAsRing};
+ghost use Rattle.tables.specs.Table.{has_arc};
+ghost use Rattle.sources.specs.Ring.{ring_verdict, ring_states, next, ring_table, ring_lawful, WeighsAsRing};
 
-use tables::Source;
+use tables::{Source, is_letter_count, letters_read};
 use weights::{Refusal, Weight};
 
 // States in a ring, which every letter leads round with one weight. Counts are checked where a question is asked.
@@ -19,23 +20,10 @@ impl<W: Weight> Ring<W> {
         ensures answer { outcome result ≡ judged (ring_verdict states letters) (record { states = states; letters = letters; weight = weight }) }
         ensures weighs { IfOk result (λ ring. WeighsAsRing W.kind.group states letters (W.kind.mean weight) (ring_table W.kind ring)) }
     {
-        Ring::checked(states, letters, weight)
-    }
-
-    // The ring, if its counts pass the checks.
-    fn checked(states: u16, letters: u8, weight: W) -> Result<Ring<W>, Refusal>
-        ensures { outcome result ≡ judged (ring_verdict states letters) (record { states = states; letters = letters; weight = weight }) }
-    {
-        if letters == 0 {
+        if !is_letter_count(letters) {
             return Err(Refusal::Letters);
         }
-        if letters > 64 {
-            return Err(Refusal::Letters);
-        }
-        if states == 0 {
-            return Err(Refusal::StateCount);
-        }
-        if states > 4096 {
+        if !(1..=4096).contains(&states) {
             return Err(Refusal::StateCount);
         }
         Ok(Ring {
@@ -45,18 +33,23 @@ impl<W: Weight> Ring<W> {
         })
     }
 
-    // How many states there are.
-    fn used_states(&self) -> u16
-        ensures { result ≡ ring_states self.now }
+    // Whether there are such a state and such a letter.
+    fn has_arc(&self, state: u16, letter: u8) -> bool
+        ensures { result ≡ has_arc (ring_table W.kind self.now) state letter }
     {
-        self.states.min(4096).max(1)
+        state < self.states() && letter < self.letters()
     }
 
-    // How many letters there are.
-    fn used_letters(&self) -> u8
-        ensures { result ≡ ring_letters self.now }
+    // The state that a state leads to.
+    fn next(&self, state: u16) -> u16
+        requires { state < ring_states self.now }
+        ensures { result ≡ next (ring_states self.now) state }
     {
-        self.letters.min(64).max(1)
+        if state + 1 < self.states() {
+            state + 1
+        } else {
+            0
+        }
     }
 }
 
@@ -66,11 +59,11 @@ impl<W: Weight> Source<W> for Ring<W> {
     ghost lawful = { λ r K. ring_lawful K r };
 
     fn states(&self) -> u16 {
-        self.used_states()
+        self.states.clamp(1, 4096)
     }
 
     fn letters(&self) -> u8 {
-        self.used_letters()
+        letters_read(self.letters)
     }
 
     fn start(&self) -> u16 {
@@ -82,35 +75,14 @@ impl<W: Weight> Source<W> for Ring<W> {
     }
 
     fn is_final(&self, state: u16) -> Option<bool> {
-        if state < self.used_states() {
-            Some(state == 0)
-        } else {
-            None
-        }
+        (state < self.states()).then_some(state == 0)
     }
 
     fn target(&self, state: u16, letter: u8) -> Option<u16> {
-        let states = self.used_states();
-        if state >= states {
-            return None;
-        }
-        if letter >= self.used_letters() {
-            return None;
-        }
-        if state + 1 < states {
-            Some(state + 1)
-        } else {
-            Some(0)
-        }
+        self.has_arc(state, letter).then(|| self.next(state))
     }
 
     fn weight(&self, state: u16, letter: u8) -> Option<W> {
-        if state >= self.used_states() {
-            return None;
-        }
-        if letter >= self.used_letters() {
-            return None;
-        }
-        Some(self.weight)
+        self.has_arc(state, letter).then_some(self.weight)
     }
 }
