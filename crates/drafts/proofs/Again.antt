@@ -1,24 +1,25 @@
 -- A draft file that is read again weighs as the table that it was written from. Assumes nothing.
-use Rattle.std.proofs.Common.{◌≡◌, ℕ, zero, suc, ◌+◌, ◌*◌, ◌/◌, ◌%◌, ◌<◌, ◌≤◌, Bool, false, ◌&&◌, eqb, ltb, leb, List, [], ◌∷◌, ◌++◌, map, length, get_or, Some, None, sym, refl, ap, ◌∙◌, subst, ⊎_elim, not-suc-le-zero, mul-le-mul_right, zero-add, add-one, arith}
+use Rattle.std.proofs.Common.{◌≡◌, ℕ, zero, suc, ◌+◌, ◌*◌, ◌/◌, ◌%◌, ◌<◌, ◌≤◌, false, List, [], ◌∷◌, ◌++◌, map, length, get_or, Some, None, sym, refl, ap, ◌∙◌, subst, not-suc-le-zero, mul-le-mul_right, zero-add, add-one, arith}
 use lib.Arith.{digits_lt}
+use Rattle.std.specs.Option.{unwrap_or}
 use Rattle.std.specs.List.{range_with_len, AllByRecursion as All}
 use Rattle.std.proofs.lemmas.Nat.{div-mul-add, mod-mul-add, div_below, mod_below}
 use Rattle.std.proofs.lemmas.List.FromFn.{map-range_with_len_more, length-map-range_with_len, get_or-range_with_len, length-range_with_len, get_or-map-range_with_len}
 use Rattle.std.proofs.ByRecursion.{All-from_get_or, All-append, All-map}
-use Rattle.std.proofs.lemmas.Bool.{cases_eq, cond_both, cond-true, and_from, and_parts, both_ways, eq-eqb, eqb-true, lt-ltb, le-leb}
+use Rattle.std.proofs.lemmas.Bool.Decides.{nat_tests}
 use Rattle.weights.specs.Codes.{Codes, code_for, within}
 use Rattle.weights.specs.Group.{Kind}
 use Rattle.tables.specs.Book.{opened}
-use Rattle.tables.specs.Call.{Size, verdict, has_room, has_state, has_letter, may_rule}
+use Rattle.tables.specs.Call.{verdict}
 use Rattle.tables.specs.Sheet.{sheet_table}
 use Rattle.tables.specs.Sketch.{Lengths, Link, Sketch, blank, sketch_size, drawn_on, sketch_table, link_to, link_by}
 use Rattle.tables.specs.Table.{Table, Lawful, Word, WeighAlike, scaled, weight_from}
 use Rattle.tables.specs.declared.call.Call.{Call}
-use Rattle.tables.specs.declared.call.Call.TheVariants.{Rule, State, Arc, Start}
+use Rattle.tables.specs.declared.call.Call.TheVariants.{Rule, State}
 use Rattle.tables.proofs.Steps.{opened_in_step, same_table}
 use Rattle.drafts.specs.Draft.{reading, made_on}
 use Rattle.drafts.specs.Written.{Named, NamedBelow, arc_count, state_call, arc_call, start_call, later_calls, draft_calls, read_again, ReadAgain}
-use Rattle.drafts.proofs.Fields.{or_else, decoded, Known, placed, calls_listed}
+use Rattle.drafts.proofs.Fields.{decoded, Known, placed, calls_listed}
 use Rattle.drafts.proofs.Drawing.{drawn_all, Unrefused, drawn_append, unrefused_append, read_in_step, read_unrefused, run, run_more, run_unrefused}
 
 -- what holds of each number below n holds of each that is counted
@@ -29,48 +30,16 @@ all_counting P n h =
     let below : i < n = omega (arith, length-range_with_len 0 n) in
     subst P (sym (get_or-range_with_len 0 n i 0 below ∙ zero-add i)) (h i below))
 
--- calls that meet no refusal
-module _ (W : Type 0) (z : Size) where
-  rule_passes : (s : ℕ) → z.count ≡ 0 → 1 ≤ s → s ≤ 64 → verdict {W = W} z (Rule s) ≡ None
-  rule_passes s none some few =
-      cond-true (may_rule z s) None _
-      (and_from (eqb z.count 0) (ltb 0 s && leb s 64) (eq-eqb z.count 0 none)
-      (and_from (ltb 0 s) (leb s 64) (lt-ltb 0 s (omega arith)) (le-leb s 64 few)))
-
-  state_passes :
-      (f : Bool) → z.count < 4095 → 1 + (z.count + 1) * z.letters ≤ z.targets → 1 + (z.count + 1) * z.letters ≤ z.weights →
-      z.count + 1 ≤ z.marks → verdict {W = W} z (State f) ≡ None
-  state_passes f few targets weights marks =
-      let end : ℕ = 1 + (z.count + 1) * z.letters in
-      let in_targets : Bool = leb end z.targets in
-      let in_weights : Bool = leb end z.weights in
-      let in_marks : Bool = leb (z.count + 1) z.marks in
-      cond-true (has_room z) None _
-      (and_from (ltb z.count 4095) (in_targets && (in_weights && in_marks)) (lt-ltb z.count 4095 few)
-      (and_from in_targets (in_weights && in_marks) (le-leb end z.targets targets)
-      (and_from in_weights in_marks (le-leb end z.weights weights) (le-leb (z.count + 1) z.marks marks))))
-
-  start_passes : (q : ℕ) (w : W) → q < z.count → verdict z (Start q w) ≡ None
-  start_passes q w h = cond-true (has_state z q) None _ (lt-ltb q z.count h)
-
-  arc_passes : (q a r : ℕ) (w : W) → q < z.count → a < z.letters → r < z.count → verdict z (Arc q a r w) ≡ None
-  arc_passes q a r w hq ha hr =
-      cond-true (has_state z q) _ _ (lt-ltb q z.count hq)
-      ∙ cond-true (has_letter z a) _ _ (lt-ltb a z.letters ha)
-      ∙ cond-true (has_state z r) None _ (lt-ltb r z.count hr)
-
 -- the state and the letter of arc p, where s is the number of letters
 pub arc_inside :
     {M : Type 0} (t : Table M) → Lawful t → (s p : ℕ) → s ≡ t.letters → p < arc_count t → (p / s < t.states) × (p % s < t.letters)
-arc_inside t lawful s p e h =
-    subst (λ s. (p / s < t.states) × (p % s < t.letters)) (sym e)
-    (div_below p t.letters t.states lawful.some_letter h, mod_below p t.letters lawful.some_letter)
+arc_inside t lawful s p e h = grind (arith, div_below p t.letters t.states lawful.some_letter, mod_below p t.letters lawful.some_letter)
 
 -- what reading the calls of the draft draws; d is any element
 module _ {W : Type 0} (K : Kind W) (k : Codes W) (t : Table K.group.Mean) (lawful : Lawful t) (d : W) where
   -- the link that an arc of the table is read as
   abbrev link : ℕ → ℕ → Link W
-  link q a = record { to = t.target q a; weight = or_else d (k.element (code_for K k (t.weight q a))) }
+  link q a = record { to = t.target q a; weight = unwrap_or (k.element (code_for K k (t.weight q a))) d }
 
   -- the sketch with the letters, and then with the first m states
   abbrev ruled : Sketch W
@@ -106,29 +75,11 @@ module _ {W : Type 0} (K : Kind W) (k : Codes W) (t : Table K.group.Mean) (lawfu
       }
   arcs_drawn (suc m) =
       let before = arcs_drawn m in
-      let p : ℕ = m / t.letters in
-      let b : ℕ = m % t.letters in
       subst (Drawn (suc m)) (sym (run_more k d (with_states t.states) (arc_call K k t) m))
       (record {
         letters = before.letters;
         finals = before.finals;
-        arcs =
-            λ q a l h.
-            cond_both (eqb q p && eqb a b) (Some (link p b)) ((with_arcs m).arc q a) (λ o. o ≡ Some (link q a))
-            (λ same.
-            let e = and_parts (eqb q p) (eqb a b) same in
-            let row : p ≡ q = sym (eqb-true q p e.0) in
-            let column : b ≡ a = sym (eqb-true a b e.1) in
-            ap (λ x. Some (link x b)) row ∙ ap (λ x. Some (link q x)) column)
-            (λ other.
-            before.arcs q a l
-            (⊎_elim
-            (λ here.
-            let row : q ≡ p = sym (div-mul-add q t.letters a l) ∙ ap (λ x. x / t.letters) here in
-            let column : a ≡ b = sym (mod-mul-add q t.letters a l) ∙ ap (λ x. x % t.letters) here in
-            absurd (both_ways (eqb q p && eqb a b) other (and_from (eqb q p) (eqb a b) (eq-eqb q p row) (eq-eqb a b column))))
-            (λ apart. omega arith)
-            (cases_eq (q * t.letters + a) m)));
+        arcs = λ q a l h. grind (arith, nat_tests, before.arcs q a l, div-mul-add q t.letters a l, mod-mul-add q t.letters a l);
       })
 
   states_in : (m : ℕ) (s : Sketch W) → Drawn m s → length s.finals ≡ t.states
@@ -138,40 +89,29 @@ module _ {W : Type 0} (K : Kind W) (k : Codes W) (t : Table K.group.Mean) (lawfu
       (marks : t.states ≤ n.marks) (few : t.states < 4096) where
     states_pass : (i : ℕ) → i < t.states → verdict (sketch_size n (with_states i)) (decoded k d (state_call K k t i)) ≡ None
     states_pass i l =
-        let count : length (map t.final (range_with_len 0 i)) ≡ i = length-map-range_with_len t.final 0 i in
-        let rows : suc i * t.letters ≤ t.states * t.letters = mul-le-mul_right t.letters l in
-        let row : (length (map t.final (range_with_len 0 i)) + 1) * t.letters ≡ suc i * t.letters =
-        ap (λ j. (j + 1) * t.letters) count ∙ ap (λ j. j * t.letters) (add-one i) in
-        ap (λ s. verdict {W = W} (sketch_size n s) (State (t.final i))) (states_drawn i)
-        ∙ state_passes W
-        (sketch_size {W = W} n (record { letters = t.letters; finals = map t.final (range_with_len 0 i); arc = λ q a. None; start = None }))
-        (t.final i) (omega arith) (omega arith) (omega arith) (omega arith)
+        let rows = mul-le-mul_right t.letters l in
+        let count = length-map-range_with_len t.final 0 i in
+        rw (states_drawn i) (grind (arith, nat_tests, rows, count))
 
     arcs_pass : (i : ℕ) → i < arc_count t → verdict (sketch_size n (with_arcs i)) (decoded k d (arc_call K k t i)) ≡ None
     arcs_pass i l =
         let before = arcs_drawn i in
-        let q : ℕ = i / t.letters in
-        let a : ℕ = i % t.letters in
         let inside = arc_inside t lawful t.letters i refl l in
         let count = states_in i (with_arcs i) before in
-        arc_passes W (sketch_size n (with_arcs i)) q a (t.target q a) (link q a).weight
-        (subst (λ m. q < m) (sym count) inside.0)
-        (subst (λ m. a < m) (sym before.letters) inside.1)
-        (subst (λ m. t.target q a < m) (sym count) (lawful.target_inside q a inside.0 inside.1))
+        let target = lawful.target_inside (i / t.letters) (i % t.letters) inside.0 inside.1 in
+        grind (arith, nat_tests, count, before.letters, inside, target)
 
     calls_pass : Unrefused k d n blank (draft_calls K k t)
     calls_pass =
-        let arcs : ℕ = arc_count t in (
-          rule_passes W (sketch_size {W = W} n blank) t.letters refl lawful.some_letter lawful.few_letters,
+        let arcs : ℕ = arc_count t in
+        let count = states_in arcs (with_arcs arcs) (arcs_drawn arcs) in (
+          grind (arith, nat_tests, lawful.some_letter, lawful.few_letters),
           unrefused_append k d n ruled (map (state_call K k t) (range_with_len 0 t.states))
               (map (arc_call K k t) (range_with_len 0 arcs) ++ (start_call K k t ∷ []))
               (run_unrefused k d n ruled (state_call K k t) t.states states_pass)
               (unrefused_append k d n (with_states t.states) (map (arc_call K k t) (range_with_len 0 arcs)) (start_call K k t ∷ [])
-              (run_unrefused k d n (with_states t.states) (arc_call K k t) arcs arcs_pass) (
-                start_passes W (sketch_size n (with_arcs arcs)) t.start (or_else d (k.element (code_for K k t.start_weight)))
-                    (subst (λ m. t.start < m) (sym (states_in arcs (with_arcs arcs) (arcs_drawn arcs))) lawful.start_inside),
-                tt,
-              )),
+              (run_unrefused k d n (with_states t.states) (arc_call K k t) arcs arcs_pass)
+              (grind (arith, nat_tests, count, lawful.start_inside), tt)),
         )
 
   -- the sketch of the whole draft
@@ -188,8 +128,8 @@ module _ {W : Type 0} (K : Kind W) (k : Codes W) (t : Table K.group.Mean) (lawfu
   module _ (named : (q a : ℕ) → q < t.states → a < t.letters → Named K k (t.weight q a))
       (start_named : Named K k t.start_weight) where
     -- the element of the code of a meaning has it
-    named_mean : (m : K.group.Mean) → Named K k m → K.mean (or_else d (k.element (code_for K k m))) ≡ m
-    named_mean m h = ap (λ o. K.mean (or_else d o)) h.1 ∙ h.2
+    named_mean : (m : K.group.Mean) → Named K k m → K.mean (unwrap_or (k.element (code_for K k m)) d) ≡ m
+    named_mean m h = ap (λ o. K.mean (unwrap_or o d)) h.1 ∙ h.2
 
     words_alike :
         (q : ℕ) (w : List ℕ) → q < t.states → Word t.letters w →

@@ -19,7 +19,7 @@ carried_on :
     {W : Type 0} (v : Option Told) (o : ℕ) (c : Contents W) (rest : Reading W) → (carried v o c rest).fault ≡ None →
     (v ≡ None) × (carried v o c rest ≡ rest)
 carried_on None o c rest e = (refl, refl)
-carried_on (Some t) o c rest e = absurd (let z : ◌≡◌ {A = ℕ} 0 1 = cc in omega arith)
+carried_on (Some t) o c rest e = absurd (cc)
 
 module _ {W : Type 0} (k : Codes W) (d : W) where
   -- the sketch after a list of calls that are all taken

@@ -1,3 +1,4 @@
+mod Faults
 mod Fits
 mod Listing
 mod Fields

@@ -1,13 +1,13 @@
 -- The listing of a file, field by field. Assumes nothing.
-use Rattle.std.proofs.Common.{◌≡◌, ℕ, zero, suc, ◌+◌, ◌-◌, ◌<◌, ◌≤◌, Bool, false, eqb, List, [], ◌∷◌, length, take, drop, Some, None, Ok, Err, Result, sym, ap, ◌∙◌, subst, le_of_suc-le-suc, not-suc-le-zero, add-zero, arith}
-use Rattle.std.proofs.lemmas.List.{take_rest, drop-drop, length-drop, drop_all, nil_from_length}
+use Rattle.std.proofs.Common.{◌≡◌, ℕ, zero, suc, ◌+◌, ◌-◌, ◌<◌, ◌≤◌, Bool, false, eqb, List, [], ◌∷◌, length, take, drop, Some, None, Ok, Result, sym, ap, ◌∙◌, subst, le_of_suc-le-suc, not-suc-le-zero, add-zero, arith}
+use Rattle.std.proofs.lemmas.List.{take_rest, drop-drop, length-drop}
 use Rattle.std.proofs.lemmas.Bool.{ne_eqb}
 use Rattle.weights.specs.Codes.{Codes}
 use Rattle.weights.specs.Refusal.{Told}
 use Rattle.tables.specs.Book.{Contents, size_of, taken}
 use Rattle.tables.specs.Call.{verdict}
-use Rattle.drafts.specs.Draft.{one_more, begun, listed, carried, reading, listing, reading_from}
-use Rattle.drafts.specs.Fault.{Blame, faulted, malformed, unmade}
+use Rattle.drafts.specs.Draft.{one_more, begun, listed, carried, reading, reading_from}
+use Rattle.drafts.specs.Fault.{faulted, unmade}
 use Rattle.drafts.specs.Field.{field_at}
 use Rattle.drafts.specs.declared.fault.Fault.{Fault}
 use Rattle.drafts.specs.declared.field.Field.{Field}
@@ -27,7 +27,7 @@ module _ {W : Type 0} (k : Codes W) (first : Bool) (o : ℕ) where
   pub next_listed :
       (xs : List ℕ) (f : Field W) → field_at k first o xs ≡ Ok f →
       listed k first 0 o xs ≡ one_more (record { offset = o; call = f.call }) (listed k false 0 (o + f.length) (drop f.length xs))
-  next_listed [] f e = absurd (let z : ◌≡◌ {A = ℕ} 0 1 = cc in omega arith)
+  next_listed [] f e = absurd (cc)
   next_listed (b ∷ bs) f e =
       let n : ℕ = f.length in
       let fits : Fits (suc (length bs)) (Ok f) = subst (Fits (suc (length bs))) e (field_fits k first o (b ∷ bs)) in
@@ -40,20 +40,12 @@ module _ {W : Type 0} (k : Codes W) (first : Bool) (o : ℕ) where
       ∙ ap (λ m. listed k false 0 m (drop (n - 1) bs)) there
       ∙ ap (λ m. listed k false 0 (o + n) (drop m (b ∷ bs))) past)
 
-  -- a field at fault ends the listing
-  fault_listed :
-      (xs : List ℕ) (b : Blame) → 0 < length xs → field_at k first o xs ≡ Err b →
-      listed k first 0 o xs ≡ record { calls = []; fault = Some b }
-  fault_listed [] b some e = absurd (not-suc-le-zero some)
-  fault_listed (x ∷ xs) b some e = ap (λ r. begun o r (λ m. listed k false m (suc o) xs)) e
-
 module _ {W : Type 0} (k : Codes W) (bs : List ℕ) (o : ℕ) (h : o < length bs) where
   -- a field that is read lies within the file
   pub within_file : (first : Bool) (f : Field W) → field_at k first o (drop o bs) ≡ Ok f → (0 < f.length) × (o + f.length ≤ length bs)
   within_file first f e =
       let fits : Fits (length (drop o bs)) (Ok f) = subst (Fits (length (drop o bs))) e (field_fits k first o (drop o bs)) in
-      let rest = length-drop o bs in
-      (fits.0, omega (arith, fits.1))
+      (fits.0, omega (arith, fits.1, length-drop o bs))
 
   -- the next field of a file is not the first
   goes_on :
@@ -90,27 +82,6 @@ module _ {W : Type 0} (k : Codes W) (bs : List ℕ) (o : ℕ) (h : o < length bs
     read_refused f t e v =
         let rest = listed k (eqb (o + f.length) 0) 0 (o + f.length) (drop (o + f.length) bs) in
         ap (reading c) (goes_on (eqb o 0) f e) ∙ ap (λ w. carried w o c (reading (taken c f.call) rest)) v
-
-    -- the field is at fault
-    pub read_fault :
-        (b : Blame) → field_at k (eqb o 0) o (drop o bs) ≡ Err b → reading_from k bs o c ≡ record { after = c; fault = Some b }
-    read_fault b e =
-        let some : 0 < length (drop o bs) = omega (arith, length-drop o bs) in
-        ap (reading c) (fault_listed k (eqb o 0) o (drop o bs) b some e)
-
--- nothing is left
-pub read_all :
-    {W : Type 0} (k : Codes W) (bs : List ℕ) (o : ℕ) (c : Contents W) → 0 < o → length bs ≤ o →
-    reading_from k bs o c ≡ record { after = c; fault = None }
-read_all k bs o c pos past =
-    ap (λ xs. reading c (listed k (eqb o 0) 0 o xs)) (drop_all o bs past)
-    ∙ ap (λ b. reading c (listed k b 0 o [])) (ne_eqb o 0 (λ z. omega arith))
-
--- an empty file
-pub read_empty :
-    {W : Type 0} (k : Codes W) (bs : List ℕ) (c : Contents W) → length bs ≡ 0 →
-    reading c (listing k bs) ≡ record { after = c; fault = Some (malformed 0) }
-read_empty k bs c e = ap (λ xs. reading c (listing k xs)) (nil_from_length bs e)
 
 -- the field at an offset, from what was answered for the rest of the file as a slice
 pub field_read :

@@ -1,35 +1,17 @@
--- Bytes written over a memory, field by field. Assumes nothing.
-use Rattle.std.proofs.Common.{◌≡◌, ℕ, zero, suc, ◌+◌, ◌-◌, ◌*◌, ◌≤◌, List, [], ◌∷◌, ◌++◌, map, length, take, drop, sym, refl, ap, ◌∙◌, add-zero, mul-zero, zero-add, mul-suc, add-one, arith}
-use lib.Seq.{paste}
+-- A draft file in a memory, field by field. Assumes nothing.
+use Rattle.std.proofs.Common.{◌≡◌, ℕ, zero, suc, ◌+◌, ◌*◌, ◌≤◌, List, [], ◌∷◌, ◌++◌, map, length, take, drop, sym, refl, ap, ◌∙◌, mul-zero, zero-add, mul-suc, add-one, arith}
+use borrow.Rule.Slice.PartMut.{put_mid}
 use Rattle.std.specs.List.{range_with_len, flat_map}
+use Rattle.std.proofs.lemmas.Grind.{flat_map-append}
 use Rattle.std.proofs.lemmas.List.FromFn.{map-range_with_len_more}
-use Rattle.std.proofs.lemmas.List.Edits.{paste_all, paste-paste}
-use Rattle.std.proofs.lemmas.List.{length-append, append_assoc, take-append-drop, flat_map_more}
+use Rattle.std.proofs.lemmas.List.{length-append, append_assoc, drop-drop, flat_map_more}
+use Rattle.std.proofs.lemmas.Slice.{take-put_mid}
 use Rattle.weights.specs.Codes.{Codes}
 use Rattle.weights.specs.Group.{Kind}
 use Rattle.tables.specs.Table.{Table}
 use Rattle.tables.specs.declared.call.Call.{Call}
 use Rattle.tables.specs.declared.call.Call.TheVariants.{Rule}
-use Rattle.drafts.specs.Written.{field_of, over, over_from, arc_count, draft_size, state_call, arc_call, start_call, states_bytes, arcs_bytes, draft_bytes}
-
--- a second writing that begins where the first ends
-over_from_append :
-    (at : ℕ) (xs ys memory : List ℕ) → at ≤ length memory →
-    over_from (at + length xs) ys (over_from at xs memory) ≡ over_from at (xs ++ ys) memory
-over_from_append at xs ys memory h =
-    sym (paste_all (over_from at xs memory) (at + length xs) ys (length ys) refl)
-    ∙ ap (λ m. paste m (at + length xs) ys (length ys)) (sym (paste_all memory at xs (length xs) refl))
-    ∙ paste-paste memory at xs ys (length xs) (length ys) refl refl h
-    ∙ ap (paste memory at (xs ++ ys)) (sym (length-append xs ys))
-    ∙ paste_all memory at (xs ++ ys) (length (xs ++ ys)) refl
-
--- nothing written
-pub over_from_none : (at : ℕ) (memory : List ℕ) → memory ≡ over_from at [] memory
-over_from_none at memory = sym (ap (λ n. take at memory ++ drop n memory) (add-zero at) ∙ take-append-drop at memory)
-
--- a writing from the front
-over_from_front : (xs memory : List ℕ) → over_from 0 xs memory ≡ over xs memory
-over_from_front xs memory = ap (λ n. xs ++ drop n memory) (zero-add (length xs))
+use Rattle.drafts.specs.Written.{field_of, over, arc_count, draft_size, state_call, arc_call, start_call, states_bytes, arcs_bytes, draft_bytes}
 
 -- fields of the same width, one after another
 module _ (kind width : ℕ) (f : ℕ → Call ℕ) (fixed : (i : ℕ) → length (field_of kind (f i)) ≡ width) where
@@ -49,31 +31,17 @@ module _ (kind width : ℕ) (f : ℕ → Call ℕ) (fixed : (i : ℕ) → length
       ∙ (let e : length (fields m) + length (field_of kind (f m)) ≡ width * m + width = cc (length_fields m, fixed m) in e)
       ∙ sym (mul-suc width m)
 
-  -- one field more is written
+  -- one field more is written over the n bytes after those that are written
   pub written_more :
-      (at m : ℕ) (memory : List ℕ) → at ≤ length memory →
-      over_from (at + width * m) (field_of kind (f m)) (over_from at (fields m) memory) ≡ over_from at (fields (m + 1)) memory
-  written_more at m memory h =
-      ap (λ n. over_from (at + n) (field_of kind (f m)) (over_from at (fields m) memory)) (sym (length_fields m))
-      ∙ over_from_append at (fields m) (field_of kind (f m)) memory h
-      ∙ ap (λ xs. over_from at xs memory) (sym (fields_more m))
-
--- the fields of two lists of calls
-joined_append :
-    (kind : ℕ) (xs ys : List (Call ℕ)) →
-    flat_map (field_of kind) (xs ++ ys) ≡ flat_map (field_of kind) xs ++ flat_map (field_of kind) ys
-joined_append kind [] ys = refl
-joined_append kind (x ∷ xs) ys =
-    ap (λ zs. field_of kind x ++ zs) (joined_append kind xs ys)
-    ∙ sym (append_assoc (field_of kind x) (flat_map (field_of kind) xs) (flat_map (field_of kind) ys))
-
--- one part more after what is written from the front
-then_written : (at : ℕ) (xs ys memory : List ℕ) → at ≡ length xs → over_from at ys (over xs memory) ≡ over (xs ++ ys) memory
-then_written at xs ys memory e =
-    ap (λ n. over_from n ys (over xs memory)) (e ∙ sym (zero-add (length xs)))
-    ∙ ap (over_from (0 + length xs) ys) (sym (over_from_front xs memory))
-    ∙ over_from_append 0 xs ys memory (omega arith)
-    ∙ over_from_front (xs ++ ys) memory
+      (n m : ℕ) (memory field : List ℕ) → width * m ≤ length memory → take (width * m) memory ≡ fields m → field ≡ field_of kind (f m) →
+      take (width * (m + 1)) (put_mid (width * m) n memory field) ≡ fields (m + 1)
+  written_more n m memory field room before e =
+      let size : length field ≡ width = ap length e ∙ fixed m in
+      let next : width * (m + 1) ≡ width * m + length field = ap (λ j. width * j) (add-one m) ∙ mul-suc width m ∙ ap (λ j. width * m + j) (sym size) in
+      take-put_mid (width * m) n memory field (width * (m + 1)) next room
+      ∙ ap (λ xs. xs ++ field) before
+      ∙ ap (λ ys. fields m ++ ys) e
+      ∙ sym (fields_more m)
 
 module _ {W : Type 0} (K : Kind W) (k : Codes W) (t : Table K.group.Mean) where
   -- the parts of the draft file
@@ -89,43 +57,36 @@ module _ {W : Type 0} (K : Kind W) (k : Codes W) (t : Table K.group.Mean) where
   abbrev start : List ℕ
   start = field_of k.number (start_call K k t)
 
-  parts : ((head ++ states) ++ arcs) ++ start ≡ draft_bytes K k t
+  parts : draft_bytes K k t ≡ head ++ (states ++ (arcs ++ start))
   parts =
       let state_calls = map (state_call K k t) (range_with_len 0 t.states) in
       let arc_calls = map (arc_call K k t) (range_with_len 0 (arc_count t)) in
-      append_assoc (head ++ states) arcs start
-      ∙ append_assoc head states (arcs ++ start)
-      ∙ ap (λ xs. head ++ (states ++ xs)) (sym (joined_append k.number arc_calls (start_call K k t ∷ [])))
-      ∙ ap (λ xs. head ++ xs) (sym (joined_append k.number state_calls (arc_calls ++ (start_call K k t ∷ []))))
-
-  length_states : length states ≡ 4 * t.states
-  length_states = length_fields k.number 4 (state_call K k t) (λ i. refl) t.states
-
-  length_arcs : length arcs ≡ 10 * arc_count t
-  length_arcs = length_fields k.number 10 (arc_call K k t) (λ i. refl) (arc_count t)
-
-  length_front : length (head ++ states) ≡ 5 + 4 * t.states
-  length_front = length-append head states ∙ ap (λ n. 5 + n) length_states
-
-  length_most : length ((head ++ states) ++ arcs) ≡ 5 + 4 * t.states + 10 * arc_count t
-  length_most =
-      length-append (head ++ states) arcs ∙ ap (λ n. n + length arcs) length_front ∙ ap (λ n. 5 + 4 * t.states + n) length_arcs
+      ap (λ xs. head ++ xs)
+      (flat_map-append (field_of k.number) state_calls (arc_calls ++ (start_call K k t ∷ []))
+      ∙ ap (λ xs. states ++ xs) (flat_map-append (field_of k.number) arc_calls (start_call K k t ∷ [])))
 
   pub length_draft : length (draft_bytes K k t) ≡ draft_size t
   length_draft =
-      ap length (sym parts)
-      ∙ length-append ((head ++ states) ++ arcs) start
-      ∙ ap (λ n. n + 7) length_most
-      ∙ (let e : 5 + 4 * t.states + 10 * arc_count t + 7 ≡ draft_size t = omega arith in e)
+      let of_states : length states ≡ 4 * t.states = length_fields k.number 4 (state_call K k t) (λ i. refl) t.states in
+      let of_arcs : length arcs ≡ 10 * arc_count t = length_fields k.number 10 (arc_call K k t) (λ i. refl) (arc_count t) in
+      ap length parts ∙ simp length-append (omega arith)
 
-  -- the parts, written one after another
+  -- the parts, before what the memory held after them
   pub draft_written :
-      (memory : List ℕ) (n m : ℕ) → n ≡ 5 + 4 * t.states → m ≡ draft_size t - 7 →
-      over_from m start (over_from n arcs (over_from 5 states (over_from 0 head memory))) ≡ over (draft_bytes K k t) memory
-  draft_written memory n m e f =
-      ap (λ xs. over_from m start (over_from n arcs xs))
-      (ap (over_from 5 states) (over_from_front head memory) ∙ then_written 5 head states memory refl)
-      ∙ ap (over_from m start) (then_written n (head ++ states) arcs memory (e ∙ sym length_front))
-      ∙ then_written m ((head ++ states) ++ arcs) start memory
-      (f ∙ (let g : draft_size t - 7 ≡ 5 + 4 * t.states + 10 * arc_count t = omega arith in g) ∙ sym length_most)
-      ∙ ap (λ xs. over xs memory) parts
+      (n m : ℕ) (memory hs qs ps zs rest : List ℕ) → n ≡ 4 * t.states → m ≡ 10 * arc_count t → hs ≡ head → qs ≡ states → ps ≡ arcs →
+      zs ≡ start → rest ≡ drop m (drop n (drop 5 memory)) →
+      hs ++ (qs ++ (ps ++ (zs ++ drop 7 rest))) ≡ over (draft_bytes K k t) memory
+  draft_written n m memory hs qs ps zs rest e f of_head of_states of_arcs of_start of_rest =
+      let after : List ℕ = drop (length (draft_bytes K k t)) memory in
+      let size : 5 + (n + (m + 7)) ≡ length (draft_bytes K k t) = omega (arith, length_draft) in
+      let left : drop 7 rest ≡ after =
+      ap (drop 7) of_rest
+      ∙ drop-drop 7 m (drop n (drop 5 memory))
+      ∙ drop-drop (m + 7) n (drop 5 memory)
+      ∙ drop-drop (n + (m + 7)) 5 memory
+      ∙ ap (λ j. drop j memory) size in
+      let whole : hs ++ (qs ++ (ps ++ (zs ++ drop 7 rest))) ≡ head ++ (states ++ (arcs ++ (start ++ after))) = cc in
+      whole
+      ∙ ap (λ xs. head ++ (states ++ xs)) (sym (append_assoc arcs start after))
+      ∙ ap (λ xs. head ++ xs) (sym (append_assoc states (arcs ++ start) after))
+      ∙ ap (λ xs. xs ++ after) (sym parts)

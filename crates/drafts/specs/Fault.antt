@@ -1,5 +1,6 @@
 -- What a fault tells: the layer that refused, the refusal, and the offset of the field's tag. Assumes nothing.
-use Rattle.std.specs.Prelude.{ℕ, List, Some, None, Ok, Err, codes, Option, Result}
+use Rattle.std.specs.Prelude.{ℕ, List, ◌++◌, Some, None, Ok, Err, codes, Option, Result}
+use Rattle.std.specs.Fmt.{decimal}
 use Rattle.weights.specs.Refusal.{Told, told, bare}
 use Rattle.drafts.specs.declared.fault.Fault.{Fault}
 use Rattle.drafts.specs.declared.fault.Layer.{Layer}
@@ -10,6 +11,12 @@ abbrev pub layer_name : Layer → List ℕ
 layer_name File = codes "file"
 layer_name Weight = codes "weight"
 layer_name Book = codes "book"
+
+-- a fault as text: the layer, the number of the refusal and the offset
+abbrev pub fault_text : Fault → List ℕ
+fault_text f =
+    codes "layer "
+    ++ (layer_name f.layer ++ (codes ", number " ++ (decimal (told f.refusal).number ++ (codes ", offset " ++ decimal f.offset))))
 
 pub record Blame : Type 0 where
   pub layer : Layer

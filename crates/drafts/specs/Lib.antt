@@ -1,4 +1,5 @@
 pub mod Fault
+pub mod Tag
 pub mod Field
 pub mod Draft
 pub mod Written

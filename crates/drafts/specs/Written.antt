@@ -1,5 +1,5 @@
 -- The draft file of a table: a field for each call that draws it. Assumes nothing.
-use Rattle.std.specs.Prelude.{◌≡◌, ℕ, ◌+◌, ◌*◌, ◌/◌, ◌%◌, ◌<◌, ◌≤◌, List, [], ◌∷◌, ◌++◌, map, length, take, drop, IfOk, Some, None, Option, Result, nat_le, nat_lt}
+use Rattle.std.specs.Prelude.{◌≡◌, ℕ, ◌+◌, ◌*◌, ◌/◌, ◌%◌, ◌<◌, ◌≤◌, List, [], ◌∷◌, ◌++◌, map, length, drop, IfOk, Some, None, Option, Result, nat_le, nat_lt}
 use Rattle.std.specs.List.{range_with_len, flat_map}
 use Rattle.weights.specs.Codes.{Codes, code_for}
 use Rattle.weights.specs.Group.{Kind}
@@ -42,12 +42,9 @@ draft_size t = 12 + 4 * t.states + 10 * arc_count t
 abbrev pub write_verdict : {M : Type 0} → Table M → ℕ → Option Told
 write_verdict t room = unless (nat_lt t.states 4096) 8 (unless (nat_le (draft_size t) room) 6 None)
 
--- bytes written over the front of a memory, and over what it holds from an offset on
+-- bytes written over the front of a memory
 abbrev pub over : List ℕ → List ℕ → List ℕ
 over xs memory = xs ++ drop (length xs) memory
-
-abbrev pub over_from : ℕ → List ℕ → List ℕ → List ℕ
-over_from at xs memory = take at memory ++ (xs ++ drop (at + length xs) memory)
 
 module _ {W : Type 0} (K : Kind W) (k : Codes W) (t : Table K.group.Mean) where
   -- the call that adds state q

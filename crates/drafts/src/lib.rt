@@ -3,6 +3,7 @@
 mod fault;
 mod field;
 mod read;
+mod tag;
 mod write;
 
 pub use fault::{Fault, Layer};

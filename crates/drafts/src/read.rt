@@ -4,7 +4,7 @@ ghost use Rattle.drafts.specs.Draft.{Advanced, listing, reading};
 ghost use Rattle.drafts.specs.Fault.{faulted, ended};
 
 use crate::fault::{Fault, Layer};
-use crate::field::{bad_field, read_field};
+use crate::field::read_field;
 use tables::{Book, make};
 use weights::Coded;
 
@@ -14,15 +14,13 @@ fn advance<W: Coded>(bytes: &[u8], offset: usize, book: &mut Book<'_, W>) -> Res
     ensures read { Advanced W.codes bytes.now offset (written book.old) (written book.new) result }
     ensures lent { SameMemory book.old book.new }
 {
-    let field = read_field(offset == 0, offset, &bytes[offset..])?;
-    match make(book, field.call) {
-        Ok(()) => Ok(offset + field.length),
-        Err(refusal) => Err(Fault {
-            layer: Layer::Book,
-            refusal,
-            offset,
-        }),
-    }
+    let field = read_field(offset, &bytes[offset..])?;
+    make(book, field.call).map_err(|refusal| Fault {
+        layer: Layer::Book,
+        refusal,
+        offset,
+    })?;
+    Ok(offset + field.length)
 }
 
 // Reads a draft file: makes the calls that it lists, up to its fault or the first that the book refuses.
@@ -32,9 +30,10 @@ pub fn read_draft<W: Coded>(bytes: &[u8], book: &mut Book<'_, W>) -> Result<(), 
     ensures lent { SameMemory book.old book.new }
 {
     if bytes.is_empty() {
-        return Err(bad_field(0));
+        return Err(Fault::malformed(0));
     }
     let mut offset = 0;
+    // Each field tells where the next begins.
     while offset < bytes.len() {
         offset = advance(bytes, offset, book)?;
     }

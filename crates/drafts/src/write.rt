@@ -1,81 +1,13 @@
-ghost use Rattle.std.specs.Prelude.{◌≡◌, ℕ, ◌+◌, ◌*◌, ◌<◌, ◌≤◌, length};
+ghost use Rattle.std.specs.Prelude.{◌≡◌, ◌*◌, ◌/◌, ◌%◌, ◌<◌, length};
 ghost use Rattle.weights.specs.Codes.{code_for};
 ghost use Rattle.weights.specs.Refusal.{outcome, judged};
-ghost use Rattle.tables.specs.declared.call.Call.TheVariants.{Rule, State, Arc, Start};
-ghost use Rattle.drafts.specs.Written.{high, low, field_of, Named, arc_count, draft_size, write_verdict, over_from};
+ghost use Rattle.tables.specs.declared.call.Call.TheVariants.{Rule};
+ghost use Rattle.drafts.specs.Written.{field_of, Named, arc_count, draft_size, write_verdict};
 ghost use Rattle.drafts.specs.Written.{state_call, arc_call, start_call, states_bytes, arcs_bytes, NamedArc, NamedBelow, DraftWritten};
 
+use crate::tag::{ARC_LENGTH, HEAD_LENGTH, START_LENGTH, STATE_LENGTH, Tag};
 use tables::Source;
 use weights::{Coded, Refusal};
-
-// The high byte of a number.
-fn high_byte(n: u16) -> u8
-    ensures { result ≡ high n }
-{
-    (n / 256) as u8
-}
-
-// The low byte of a number.
-fn low_byte(n: u16) -> u8
-    ensures { result ≡ low n }
-{
-    (n % 256) as u8
-}
-
-// The head: the kind and the letters.
-fn head_field<W: Coded>(letters: u8) -> [u8; 5]
-    ensures { result ≡ field_of W.codes.number (Rule letters) }
-{
-    [1, 0, 2, W::kind_number(), letters]
-}
-
-// A state: 1 for final, or 0.
-fn state_field(accepting: bool) -> [u8; 4]
-    ensures { (kind : ℕ) → result ≡ field_of kind (State accepting) }
-{
-    [2, 0, 1, if accepting { 1 } else { 0 }]
-}
-
-// An arc: a state, a letter, a target and a code.
-fn arc_field(from: u16, letter: u8, to: u16, code: u16) -> [u8; 10]
-    ensures { (kind : ℕ) → result ≡ field_of kind (Arc from letter to code) }
-{
-    [
-        3,
-        0,
-        7,
-        high_byte(from),
-        low_byte(from),
-        letter,
-        high_byte(to),
-        low_byte(to),
-        high_byte(code),
-        low_byte(code),
-    ]
-}
-
-// A start: a state and a code.
-fn start_field(state: u16, code: u16) -> [u8; 7]
-    ensures { (kind : ℕ) → result ≡ field_of kind (Start state code) }
-{
-    [
-        4,
-        0,
-        4,
-        high_byte(state),
-        low_byte(state),
-        high_byte(code),
-        low_byte(code),
-    ]
-}
-
-// Writes a field over the bytes from an offset on.
-fn put_field(out: &mut [u8], at: usize, field: &[u8])
-    requires { at + length field.now ≤ length out.old }
-    ensures { out.new ≡ over_from at field.now out.old }
-{
-    out[at..at + field.len()].copy_from_slice(field);
-}
 
 // The code of an element, which is the code of its meaning.
 fn code_of<W: Coded>(weight: W) -> u16
@@ -85,71 +17,104 @@ fn code_of<W: Coded>(weight: W) -> u16
     weight.code()
 }
 
-// Writes one state.
-fn write_state<W: Coded, S: Source<W>>(source: &S, state: u16, out: &mut [u8], at: usize)
-    requires inside { state < (S.table source.now W.kind).states }
-    requires room { at + 4 ≤ length out.old }
-    ensures { out.new ≡ over_from at (field_of W.codes.number (state_call W.kind W.codes (S.table source.now W.kind) state)) out.old }
+// How many arcs a source has.
+fn arc_count<W: Coded, S: Source<W>>(source: &S) -> usize
+    ensures { result ≡ arc_count (S.table source.now W.kind) }
 {
-    put_field(out, at, &state_field(source.is_final(state).unwrap()));
+    usize::from(source.states()) * usize::from(source.letters())
 }
 
-// Writes one arc, given by its number.
-fn write_arc<W: Coded, S: Source<W>>(source: &S, arc: usize, out: &mut [u8], at: usize)
-    requires inside { arc < arc_count (S.table source.now W.kind) }
-    requires room { at + 10 ≤ length out.old }
-    ensures named { NamedArc W.kind W.codes (S.table source.now W.kind) arc }
-    ensures bytes { out.new ≡ over_from at (field_of W.codes.number (arc_call W.kind W.codes (S.table source.now W.kind) arc)) out.old }
+// The head: the kind and the letters.
+fn head_field<W: Coded, S: Source<W>>(source: &S) -> [u8; HEAD_LENGTH]
+    ensures { result ≡ field_of W.codes.number (Rule (S.table source.now W.kind).letters) }
 {
-    let letters = source.letters() as usize;
-    let from = (arc / letters) as u16;
-    let letter = (arc % letters) as u8;
+    [Tag::Head as u8, 0, 2, W::kind_number(), source.letters()]
+}
+
+// A state: 1 for final, or 0.
+fn state_field<W: Coded, S: Source<W>>(source: &S, state: u16) -> [u8; STATE_LENGTH]
+    requires { state < (S.table source.now W.kind).states }
+    ensures { result ≡ field_of W.codes.number (state_call W.kind W.codes (S.table source.now W.kind) state) }
+{
+    let accepting = source.is_final(state).unwrap();
+    [Tag::State as u8, 0, 1, u8::from(accepting)]
+}
+
+// The state and the letter of an arc, given by its number.
+fn arc_place<W: Coded, S: Source<W>>(source: &S, arc: usize) -> (u16, u8)
+    requires { arc < arc_count (S.table source.now W.kind) }
+    ensures place { (result.0 ≡ arc / (S.table source.now W.kind).letters) × (result.1 ≡ arc % (S.table source.now W.kind).letters) }
+    ensures inside { (result.0 < (S.table source.now W.kind).states) × (result.1 < (S.table source.now W.kind).letters) }
+{
+    let letters = usize::from(source.letters());
+    // both fit, as is proved, and a `try_from` could fail
+    ((arc / letters) as u16, (arc % letters) as u8)
+}
+
+// An arc, given by its number: a state, a letter, a target and a code.
+fn arc_field<W: Coded, S: Source<W>>(source: &S, arc: usize) -> [u8; ARC_LENGTH]
+    requires { arc < arc_count (S.table source.now W.kind) }
+    ensures named { NamedArc W.kind W.codes (S.table source.now W.kind) arc }
+    ensures bytes { result ≡ field_of W.codes.number (arc_call W.kind W.codes (S.table source.now W.kind) arc) }
+{
+    let (from, letter) = arc_place(source, arc);
     let to = source.target(from, letter).unwrap();
     let code = code_of(source.weight(from, letter).unwrap());
-    put_field(out, at, &arc_field(from, letter, to, code));
+    let [q1, q0] = from.to_be_bytes();
+    let [r1, r0] = to.to_be_bytes();
+    let [c1, c0] = code.to_be_bytes();
+    [Tag::Arc as u8, 0, 7, q1, q0, letter, r1, r0, c1, c0]
 }
 
-// Writes the states.
-fn write_states<W: Coded, S: Source<W>>(source: &S, out: &mut [u8], at: usize)
-    requires { at + 4 * (S.table source.now W.kind).states ≤ length out.old }
-    ensures { out.new ≡ over_from at (states_bytes W.kind W.codes (S.table source.now W.kind) (S.table source.now W.kind).states) out.old }
-{
-    for state in 0..source.states() {
-        write_state(source, state, out, at + 4 * state as usize);
-    }
-}
-
-// Writes the arcs, by state and letter.
-fn write_arcs<W: Coded, S: Source<W>>(source: &S, out: &mut [u8], at: usize)
-    requires { at + 10 * arc_count (S.table source.now W.kind) ≤ length out.old }
-    ensures named { NamedBelow W.kind W.codes (S.table source.now W.kind) (arc_count (S.table source.now W.kind)) }
-    ensures bytes { out.new ≡ over_from at (arcs_bytes W.kind W.codes (S.table source.now W.kind) (arc_count (S.table source.now W.kind))) out.old }
-{
-    let arcs = source.states() as usize * source.letters() as usize;
-    for arc in 0..arcs {
-        write_arc(source, arc, out, at + 10 * arc);
-    }
-}
-
-// Writes the start.
-fn write_start<W: Coded, S: Source<W>>(source: &S, out: &mut [u8], at: usize)
-    requires { at + 7 ≤ length out.old }
+// A start: a state and a code.
+fn start_field<W: Coded, S: Source<W>>(source: &S) -> [u8; START_LENGTH]
     ensures named { Named W.kind W.codes (S.table source.now W.kind).start_weight }
-    ensures bytes { out.new ≡ over_from at (field_of W.codes.number (start_call W.kind W.codes (S.table source.now W.kind))) out.old }
+    ensures bytes { result ≡ field_of W.codes.number (start_call W.kind W.codes (S.table source.now W.kind)) }
 {
+    let state = source.start();
     let code = code_of(source.start_weight());
-    put_field(out, at, &start_field(source.start(), code));
+    let [q1, q0] = state.to_be_bytes();
+    let [c1, c0] = code.to_be_bytes();
+    [Tag::Start as u8, 0, 4, q1, q0, c1, c0]
+}
+
+// Fills a memory with the states. Not one function with `write_arcs`: over a closure the promise would be about its `post` at each
+// index, which is no plainer.
+fn write_states<W: Coded, S: Source<W>>(source: &S, out: &mut [u8])
+    requires { 4 * (S.table source.now W.kind).states ≡ length out.old }
+    ensures { out.new ≡ states_bytes W.kind W.codes (S.table source.now W.kind) (S.table source.now W.kind).states }
+{
+    // By index: after a loop over lent chunks a proof would know only the length.
+    for state in 0..source.states() {
+        let at = STATE_LENGTH * usize::from(state);
+        out[at..at + STATE_LENGTH].copy_from_slice(&state_field(source, state));
+    }
+}
+
+// Fills a memory with the arcs, by state and letter; by index, as the states.
+fn write_arcs<W: Coded, S: Source<W>>(source: &S, out: &mut [u8])
+    requires { 10 * arc_count (S.table source.now W.kind) ≡ length out.old }
+    ensures named { NamedBelow W.kind W.codes (S.table source.now W.kind) (arc_count (S.table source.now W.kind)) }
+    ensures bytes { out.new ≡ arcs_bytes W.kind W.codes (S.table source.now W.kind) (arc_count (S.table source.now W.kind)) }
+{
+    for arc in 0..arc_count(source) {
+        let at = ARC_LENGTH * arc;
+        out[at..at + ARC_LENGTH].copy_from_slice(&arc_field(source, arc));
+    }
 }
 
 // The length of the draft file of a source, or the refusal of writing it into so many bytes.
 fn draft_length<W: Coded, S: Source<W>>(source: &S, room: usize) -> Result<usize, Refusal>
     ensures { outcome result ≡ judged (write_verdict (S.table source.now W.kind) room) (draft_size (S.table source.now W.kind)) }
 {
-    let states = source.states() as usize;
+    let states = usize::from(source.states());
     if states >= 4096 {
         return Err(Refusal::StateCount);
     }
-    let length = 12 + 4 * states + 10 * (states * source.letters() as usize);
+    let length = HEAD_LENGTH
+        + STATE_LENGTH * states
+        + ARC_LENGTH * arc_count(source)
+        + START_LENGTH;
     if room < length {
         return Err(Refusal::ShortMemory);
     }
@@ -162,9 +127,12 @@ pub fn write_draft<W: Coded, S: Source<W>>(source: &S, out: &mut [u8]) -> Result
     ensures { DraftWritten W.kind W.codes (S.table source.now W.kind) out.old out.new result }
 {
     let length = draft_length(source, out.len())?;
-    put_field(out, 0, &head_field::<W>(source.letters()));
-    write_states(source, out, 5);
-    write_arcs(source, out, 5 + 4 * source.states() as usize);
-    write_start(source, out, length - 7);
+    let (head, rest) = out.split_at_mut(HEAD_LENGTH);
+    let (states, rest) = rest.split_at_mut(STATE_LENGTH * usize::from(source.states()));
+    let (arcs, rest) = rest.split_at_mut(ARC_LENGTH * arc_count(source));
+    head.copy_from_slice(&head_field(source));
+    write_states(source, states);
+    write_arcs(source, arcs);
+    rest[..START_LENGTH].copy_from_slice(&start_field(source));
     Ok(length)
 }

@@ -1,5 +1,5 @@
-use Rattle.std.proofs.Common.{◌≡◌}
-use Rattle.drafts.specs.Written.{over_from, arcs_bytes, NamedBelow}
+use Rattle.std.proofs.Common.{◌≡◌, ◌*◌, take}
+use Rattle.drafts.specs.Written.{arcs_bytes, NamedBelow}
 use Rattle.drafts.proofs.write.write_arcs.Given as goal
 
 abbrev pub invariant-loop-arc : goal.invariant-loop-arc
@@ -7,4 +7,4 @@ invariant-loop-arc g l =
     let K = g.W.Weight.kind in
     let k = g.W.Coded.codes in
     let t = g.S.Source.table l.source K in
-    NamedBelow K k t l.arc × (l.out ≡ over_from l.at (arcs_bytes K k t l.arc) l.initial.out)
+    NamedBelow K k t l.arc × (take (10 * l.arc) l.out ≡ arcs_bytes K k t l.arc)
