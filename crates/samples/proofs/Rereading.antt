@@ -1,5 +1,6 @@
 -- A draft file that was written, and what is read of its bytes. Assumes nothing.
-use Rattle.std.proofs.Common.{◌≡◌, ℕ, List, length, take, drop, Some, None, Ok, Option, sym, refl, ap, ◌∙◌, subst, arith}
+use Rattle.std.proofs.Common.{◌≡◌, ℕ, List, length, take, drop, Some, None, Ok, Err, Option, Result, sym, refl, ap, ◌∙◌, subst, arith}
+use Rattle.std.specs.Result.{result_ok}
 use Rattle.std.proofs.lemmas.List.{take_at}
 use Rattle.weights.specs.Codes.{Codes}
 use Rattle.weights.specs.Group.{Kind}
@@ -15,6 +16,11 @@ use Rattle.drafts.specs.Written.{over, draft_size, draft_bytes, write_verdict, D
 no_fault : (f : Option Blame) (u : Unit {0}) → Ok u ≡ ended f → f ≡ None
 no_fault None u e = refl
 no_fault (Some b) u e = absurd (let z : ◌≡◌ {A = ℕ} 0 1 = cc in omega arith)
+
+-- an answer whose value is there is that value
+pub ok_some : {X E : Type 0} (r : Result X E) (x : X) → result_ok r ≡ Some x → r ≡ Ok x
+ok_some (Ok y) x e = cc
+ok_some (Err f) x e = absurd (let z : ◌≡◌ {A = ℕ} 0 1 = cc in omega arith)
 
 module _ {W : Type 0} (K : Kind W) (k : Codes W) (t : Table K.group.Mean) (before after : List ℕ) (n m : ℕ)
     (h : DraftWritten K k t before after (Ok n)) (whole : m ≡ n) where

@@ -8,7 +8,7 @@ use drafts::{read_draft, write_draft};
 use tables::{Book, Sheet, Source};
 use weights::Coded;
 
-// The sheet that a source's draft file is read as, where neither is refused.
+// The sheet that a source's draft file is read as, where neither is refused. It takes three memories, as `Book::open` does.
 fn copied<'a, W: Coded, S: Source<W>>(
     source: &S,
     bytes: &mut [u8],
@@ -18,12 +18,8 @@ fn copied<'a, W: Coded, S: Source<W>>(
 ) -> Option<Sheet<'a, W>>
     ensures { IfSome result (λ sheet. WeighAlike W.kind.group (sheet_table W.kind (held sheet)) (S.table source.now W.kind)) }
 {
-    let Ok(length) = write_draft(source, bytes) else {
-        return None;
-    };
+    let length = write_draft(source, bytes).ok()?;
     let mut book = Book::open(targets, weights, marks);
-    match read_draft(&bytes[0..length], &mut book) {
-        Ok(()) => Some(book.close()),
-        Err(_) => None,
-    }
+    read_draft(&bytes[..length], &mut book).ok()?;
+    Some(book.close())
 }

@@ -6,10 +6,10 @@ use weights::{Check, Coded, Refusal, Weight, Wheel};
 
 // The code of what a word weighs: none where the word weighs nothing or is refused.
 fn code<W: Coded, S: Source<W>>(source: &S, word: &[u8]) -> Option<u16> {
-    match weigh(source, word) {
-        Ok(Some(weight)) => Some(weight.code()),
-        _ => None,
-    }
+    weigh(source, word)
+        .ok()
+        .flatten()
+        .map(|weight| weight.code())
 }
 
 // Letters come before states.

@@ -4,10 +4,10 @@ use std::alloc::{AllocError, Global};
 pub(crate) fn letters_of(heap: Global, text: &str) -> Result<Option<Vec<u8>>, AllocError> {
     let mut letters = Vec::new(heap);
     for part in text.split_whitespace() {
-        match part.parse::<u8>() {
-            Ok(letter) => letters.push(letter)?,
-            Err(_) => return Ok(None),
-        }
+        let Ok(letter) = part.parse::<u8>() else {
+            return Ok(None);
+        };
+        letters.push(letter)?;
     }
     Ok(Some(letters))
 }
