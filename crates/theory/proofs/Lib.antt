@@ -1,0 +1,16 @@
+pub mod Basics
+pub mod Pigeonhole
+pub mod Equal
+pub mod Search
+pub mod Minimal
+pub mod Determined
+pub mod Gap
+pub mod HyperRun
+pub mod Agreement
+pub mod Kept
+pub mod Fewest
+pub mod Single
+pub mod Tests
+pub mod LeastTests
+pub mod HyperTests
+pub mod WorkedTables
