@@ -1,3 +1,4 @@
 pub mod Reading
 pub mod Places
 pub mod Steps
+mod Lists

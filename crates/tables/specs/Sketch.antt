@@ -1,6 +1,6 @@
 -- What a list of calls on a new book comes to, told by the lengths of the memories and the calls' arguments alone.
 -- Assumes nothing.
-use Rattle.std.specs.Prelude.{ℕ, ◌+◌, Bool, false, cond, ◌&&◌, List, [], ◌∷◌, ◌++◌, length, Some, None, Option, Result, ◌==◌, slice_index_or}
+use Rattle.std.specs.Prelude.{◌≡◌, ℕ, ◌+◌, Bool, false, cond, ◌&&◌, List, [], ◌∷◌, ◌++◌, length, Some, None, Option, Result, ◌==◌, slice_index_or}
 use Rattle.weights.specs.Group.{Kind}
 use Rattle.weights.specs.Refusal.{Told, judged}
 use Rattle.tables.specs.Table.{Table}
@@ -93,3 +93,15 @@ sketch_table K s =
       target = λ q a. link_to (length s.finals) (s.arc q a);
       weight = λ q a. link_by K (s.arc q a);
     }
+
+-- values written into a memory from its front on, as far as they fit
+abbrev pub written_into : {X : Type 0} → List X → List X → List X
+written_into ys [] = ys
+written_into [] (x ∷ xs) = []
+written_into (y ∷ ys) (x ∷ xs) = x ∷ written_into ys xs
+
+-- what a list of calls on a new book over memories of those lengths comes to: the answers, as far as there is room for them, and
+-- the table of the closed book
+pub record Drawn {W : Type 0} (K : Kind W) (n : Lengths) (ks : List (Call W)) (before after : List (Result (Unit {0}) Told)) (t : Table K.group.Mean) : Type 0 where
+  pub answers : after ≡ written_into before (answers_of n blank ks)
+  pub table : t ≡ sketch_table K (sketch_of n blank ks)

@@ -2,6 +2,7 @@
 
 mod book;
 mod call;
+mod list;
 mod memory;
 mod sheet;
 mod sketch;

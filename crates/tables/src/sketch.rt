@@ -13,7 +13,7 @@ use crate::sheet::Sheet;
 use weights::{Refusal, Weight};
 
 // Three memories, as `Book::open` takes them.
-fn open_in_step<'a, W: Weight>(
+pub(crate) fn open_in_step<'a, W: Weight>(
     targets: &'a mut [u16],
     weights: &'a mut [W],
     marks: &'a mut [u8],
@@ -23,14 +23,14 @@ fn open_in_step<'a, W: Weight>(
     Book::open(targets, weights, marks)
 }
 
-fn make_in_step<W: Weight>(book: &mut Book<'_, W>, call: Call<W>) -> Result<(), Refusal>
+pub(crate) fn make_in_step<W: Weight>(book: &mut Book<'_, W>, call: Call<W>) -> Result<(), Refusal>
     ensures answer { (n : Lengths) (s : Sketch W) → InStep n s (written book.old) → outcome result ≡ sketch_answer n s call }
     ensures after { (n : Lengths) (s : Sketch W) → InStep n s (written book.old) → InStep n (sketched n s call) (written book.new) }
 {
     make(book, call)
 }
 
-fn close_in_step<'a, W: Weight>(book: Book<'a, W>) -> Sheet<'a, W>
+pub(crate) fn close_in_step<'a, W: Weight>(book: Book<'a, W>) -> Sheet<'a, W>
     ensures { (n : Lengths) (s : Sketch W) → InStep n s (written book.entry) → sheet_table W.kind (held result) ≡ sketch_table W.kind s }
 {
     book.close()
