@@ -1,0 +1,57 @@
+-- A state that all arcs from it lead back to, and that each word of a few letters leads to, is the one kernel state. Assumes nothing.
+use Rattle.std.proofs.Common.{◌≡◌, ℕ, zero, suc, ◌+◌, ◌<◌, ◌≤◌, Bool, true, eqb, List, [], ◌∷◌, length, inl, inr, sym, refl, ap, ◌∙◌, arith}
+use Rattle.std.proofs.lemmas.Bool.{cases_lt, eqb-true}
+use Rattle.tables.specs.Table.{Table, Word}
+use Rattle.theory.specs.Runs.{led}
+use Rattle.theory.specs.Kernel.{Kernel, Preamble}
+use Rattle.theory.proofs.Tests.{all_below, at_each}
+
+-- a word of letter 0 alone
+zeros : (s n : ℕ) → 0 < s → (w : List ℕ) × Word s w × (n ≤ length w)
+zeros s zero l = ([], tt, omega arith)
+zeros s (suc n) l = let z = zeros s n l in (0 ∷ z.0, (l, z.1), omega (arith, z.2))
+
+module _ {M : Type 0} (t : Table M) (s : ℕ) where
+  -- whether all arcs from s lead back to it
+  unfoldable pub holds_fast : Bool
+  holds_fast = all_below (λ a. eqb (t.target s a) s) t.letters
+
+  -- whether each word of n letters leads from state q to s
+  unfoldable pub sinks : ℕ → ℕ → Bool
+  sinks zero q = eqb q s
+  sinks (suc n) q = all_below (λ a. sinks n (t.target q a)) t.letters
+
+  module _ (fast : holds_fast ≡ true) where
+    pub stays : (w : List ℕ) → Word t.letters w → led t s w ≡ s
+    unfolding holds_fast
+    stays [] h = refl
+    stays (a ∷ w) h = ap (λ p. led t p w) (eqb-true _ _ (at_each _ _ fast a h.0)) ∙ stays w h.1
+
+    pub sunk : (n q : ℕ) (w : List ℕ) → sinks n q ≡ true → Word t.letters w → n ≤ length w → led t q w ≡ s
+    unfolding sinks
+    sunk zero q w e h l = ap (λ p. led t p w) (eqb-true _ _ e) ∙ stays w h
+    sunk (suc n) q [] e h l = absurd (omega arith)
+    sunk (suc n) q (a ∷ w) e h l = sunk n (t.target q a) w (at_each _ _ e a h.0) h.1 (omega arith)
+
+    module _ (n : ℕ) (few : sinks n t.start ≡ true) where
+      pub sink_kernel : 0 < t.letters → Kernel t s
+      sink_kernel some =
+          record {
+            words =
+                λ m.
+                let z = zeros t.letters (n + m) some in
+                (z.0, z.1, omega (arith, z.2), sunk n t.start z.0 few z.1 (omega (arith, z.2)));
+          }
+
+      pub other_preamble : (q : ℕ) → (q ≡ s → ⊥) → Preamble t q
+      other_preamble q other =
+          record {
+            words = (
+              n,
+              λ w h e.
+                  elim (cases_lt (length w) n) [
+                    | inl short ↦ short
+                    | inr long ↦ absurd (other (sym e ∙ sunk n t.start w few h long))
+                  ],
+            );
+          }

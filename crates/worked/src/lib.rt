@@ -1,0 +1,4 @@
+#![tactic(auto)]
+
+// Worked drafts, from the calls that draw a book to the hyper table.
+mod drafts_proved;
