@@ -1,0 +1,14 @@
+pub mod Rows
+pub mod Compile
+pub mod Steps
+pub mod Group
+pub mod Copy
+pub mod Pushing
+pub mod Grouping
+pub mod Classing
+pub mod Gathering
+pub mod Peeling
+pub mod Choosing
+pub mod Almost
+pub mod Redirecting
+pub mod Outcome
