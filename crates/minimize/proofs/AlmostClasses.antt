@@ -1,15 +1,11 @@
 -- Rounds that gather almost-equivalent states: what is gathered is almost-equivalent, and where a round gathers no more, all that is
 -- almost-equivalent is gathered. Assumes nothing.
-use Rattle.std.proofs.Common.{◌≡◌, ◌≢◌, ℕ, zero, suc, ◌+◌, ◌-◌, ◌*◌, ◌<◌, ◌≤◌, Bool, true, false, cond, List, [], ◌∷◌, length, get_or, set, map, None, inl, inr, sym, refl, ap, ◌∙◌, subst, arith}
+use Rattle.std.proofs.Common.{◌≡◌, ◌≢◌, ℕ, zero, suc, ◌+◌, ◌-◌, ◌<◌, ◌≤◌, Bool, true, false, cond, List, [], ◌∷◌, length, None, inl, inr, sym, refl, ap, ◌∙◌, subst, arith}
 use Rattle.std.proofs.lemmas.Bool.{cases_Bool, cases_eq, eqb-true, eq-eqb, both_ways, cond-true, false_from_ne_true}
-use Rattle.std.proofs.lemmas.List.{length-map, map-set, get_or-set_same, get_or-set_other}
-use Rattle.std.proofs.lemmas.Nat.{row_fits}
-use Rattle.std.specs.Prelude.{slice_index}
 use Rattle.weights.specs.Codes.{within}
-use Rattle.weights.specs.Group.{Group, Kind}
+use Rattle.weights.specs.Group.{Group}
 use Rattle.weights.proofs.Groups.{one_right}
 use Rattle.tables.specs.Table.{Table, Word, scaled, weight_from}
-use Rattle.tables.specs.Sheet.{mean_at}
 use Rattle.tables.proofs.Reading.{scaled_twice}
 use Rattle.theory.specs.Runs.{Closed, accepts}
 use Rattle.theory.specs.Series.{Multiple, Equivalent, AlmostBy, AlmostEquivalent}
@@ -18,15 +14,10 @@ use Rattle.theory.specs.Hyper.{kept_below}
 use Rattle.theory.proofs.Basics.{inv_cancels, cancels_inv, walked, weight_walked, multiple_sym, multiple_trans, multiple_later, multiple_after, multiple_accepts, almost_by_itself, almost_sym}
 use Rattle.theory.proofs.Search.{co_kernel_not_preamble}
 use Rattle.theory.proofs.Single.{one_almost}
+use Rattle.minimize.proofs.Keeping.{kept_fewer, kept_stands}
+use Rattle.minimize.proofs.Choosing.{told_true, told_false}
 use Rattle.minimize.specs.Steps.{Told, AlmostClasses, none, leads}
-use Rattle.minimize.specs.Almost.{weighed, base, OneRow, Regrouped, FilledPlace, FilledRow, Filled}
-
--- what a mark tells
-told_true : (b : Bool) (X Y : Type 0) → b ≡ true → Told b X Y → X
-told_true b X Y e h = subst (λ v. Told v X Y) e h
-
-told_false : (b : Bool) (X Y : Type 0) → b ≡ false → Told b X Y → Y
-told_false b X Y e h = subst (λ v. Told v X Y) e h
+use Rattle.minimize.specs.Almost.{weighed, base, OneRow, Regrouped}
 
 -- choices by one mark
 cond_alike :
@@ -100,51 +91,12 @@ module _ (G : Group) (t : Table G.Mean) where
       factor_moved G (t.weight q a) (t.weight p a) k x y
       (one_almost G t (t.target q a) r x (G.mul z y) c i (almost_by_trans z y (t.target q a) (t.target p a) r (almost_by_next k q p a l h) j))
 
--- how many are kept
-bit_most : (b : Bool) → cond b 1 0 ≤ 1
-bit_most true = omega arith
-bit_most false = omega arith
-
-kept_most : (f : ℕ → Bool) (n : ℕ) → kept_below f n ≤ n
-kept_most f zero = omega arith
-kept_most f (suc n) = omega (arith, kept_most f n, bit_most (f n))
-
+-- all are kept
 kept_all : (f : ℕ → Bool) (n : ℕ) → ((q : ℕ) → q < n → f q ≡ true) → kept_below f n ≡ n
 kept_all f zero e = refl
 kept_all f (suc n) e =
     let last : cond {A = ℕ} (f n) 1 0 ≡ 1 = cond-true (f n) 1 0 (e n (omega arith)) in
     omega (arith, kept_all f n (λ q l. e q (omega arith)), last)
-
--- where all that f keeps is kept by g
-module _ (f g : ℕ → Bool) where
-  kept_fewer : (n : ℕ) → ((q : ℕ) → q < n → f q ≡ true → g q ≡ true) → kept_below f n ≤ kept_below g n
-  kept_fewer zero e = omega arith
-  kept_fewer (suc n) e =
-      omega (arith, kept_fewer n (λ q l. e q (omega arith)), bits (f n) (g n) (e n (omega arith)))
-    where
-      bits : (b c : Bool) → (b ≡ true → c ≡ true) → cond b 1 0 ≤ cond c 1 0
-      bits true c h = subst (λ x. 1 ≤ cond x 1 0) (sym (h refl)) (omega arith)
-      bits false c h = omega arith
-
-  -- and as many are, f keeps what g keeps
-  kept_stands :
-      (n : ℕ) → ((q : ℕ) → q < n → f q ≡ true → g q ≡ true) → kept_below f n ≡ kept_below g n → (q : ℕ) → q < n → g q ≡ true → f q ≡ true
-  kept_stands zero e same q l h = absurd (omega arith)
-  kept_stands (suc n) e same q l h =
-      let e' : (p : ℕ) → p < n → f p ≡ true → g p ≡ true = λ p k. e p (omega arith) in
-      let x = last (f n) (g n) (kept_below f n) (kept_below g n) (e n (omega arith)) (kept_fewer n e') same in
-      elim (cases_eq q n) [
-        | inl here ↦ ap f here ∙ x.1 (sym (ap g here) ∙ h)
-        | inr other ↦ kept_stands n e' x.0 q (omega arith) h
-      ]
-    where
-      last :
-          (b c : Bool) (x y : ℕ) → (b ≡ true → c ≡ true) → x ≤ y → x + cond b 1 0 ≡ y + cond c 1 0 →
-          (x ≡ y) × (c ≡ true → b ≡ true)
-      last true true x y h l e = (omega arith, λ z. refl)
-      last true false x y h l e = (let z : false ≡ true = h refl in absurd cc)
-      last false true x y h l e = absurd (omega arith)
-      last false false x y h l e = (omega arith, λ z. z)
 
 module _ (G : Group) (t : Table G.Mean) (o : ℕ → Bool) (label : ℕ → ℕ) (factor : ℕ → G.Mean) where
   -- the labels so far: each state is a multiple of the first state that has its label, and states with one label have targets with
@@ -435,7 +387,7 @@ module _ (G : Group) (t : Table G.Mean) (o : ℕ → Bool) (closed : Closed t) (
 
     -- a round makes no new labels
     pub regrouped_fewer : (known : ℕ) → known ≡ kept_below (leads label) t.states → m ≤ known
-    regrouped_fewer known e = omega (arith, r.count, e, kept_fewer (leads label') (leads label) t.states led_before)
+    regrouped_fewer known e = omega (arith, r.count, e, kept_fewer (leads label) (leads label') t.states led_before)
 
     module _ (known : ℕ) (counted : known ≡ kept_below (leads label) t.states) (same : m ≡ known) where
       -- where there are as many labels as before, they are what they were
@@ -446,7 +398,7 @@ module _ (G : Group) (t : Table G.Mean) (o : ℕ → Bool) (closed : Closed t) (
           let k : v < t.states = omega arith in
           coarser q v l k (sym (s.leader q l))
           ∙ eqb-true (label' v) v
-          (kept_stands (leads label') (leads label) t.states led_before (sym r.count ∙ same ∙ counted) v k (eq-eqb (label v) v (s.leader q l)))
+          (kept_stands (leads label) (leads label') t.states led_before (omega (arith, r.count, same, counted)) v k (eq-eqb (label v) v (s.leader q l)))
 
       module _ (apart : (q p : ℕ) → q < t.states → p < t.states → Equivalent G t q p → q ≡ p) where
         -- almost-equivalent states have one label
@@ -472,88 +424,6 @@ module _ (G : Group) (t : Table G.Mean) (o : ℕ → Bool) (closed : Closed t) (
               almost = regrouped_settled.almost;
               one_class = λ q p i j e. gathered e.by.from q p e.factor i j e.by.multiple;
             }
-
--- an element that is written, and the others
-mean_set_same :
-    {W : Type 0} (K : Kind W) (xs : List W) (i : ℕ) (x : W) → i < length xs → mean_at K (set xs i x) i ≡ K.mean x
-mean_set_same K xs i x l =
-    ap (λ ys. get_or ys i K.group.one) (map-set K.mean xs i x)
-    ∙ get_or-set_same (map K.mean xs) i (K.mean x) K.group.one (omega (arith, length-map xs K.mean))
-
-mean_set_other :
-    {W : Type 0} (K : Kind W) (xs : List W) (i k : ℕ) (x : W) → k ≢ i → mean_at K (set xs i x) k ≡ mean_at K xs k
-mean_set_other K xs i k x other =
-    ap (λ ys. get_or ys k K.group.one) (map-set K.mean xs i x) ∙ get_or-set_other (map K.mean xs) i k (K.mean x) K.group.one other
-
--- one more element
-pub means_more :
-    {W : Type 0} (K : Kind W) (f : ℕ → K.group.Mean) (xs : List W) (m i : ℕ) (x : W) → i ≡ m → K.mean x ≡ f m → m < length xs →
-    ((k : ℕ) → k < m → mean_at K xs k ≡ f k) → (k : ℕ) → k < m + 1 → mean_at K (set xs i x) k ≡ f k
-means_more K f xs m i x at value room h k l = grind (arith, mean_set_same, mean_set_other)
-
--- rows that are filled
-module _ {W : Type 0} (K : Kind W) (s : ℕ) (label : ℕ → ℕ → ℕ) (element : ℕ → ℕ → K.group.Mean) where
-  pub filled_more :
-      (q a i x : ℕ) (w : W) (row_labels row_labels' : List ℕ) (row_elements row_elements' : List W) →
-      i ≡ q * s + a → i < length row_labels' → i < length row_elements' → x ≡ label q a → K.mean w ≡ element q a →
-      FilledRow K s label element q a row_labels row_elements row_labels' row_elements' →
-      FilledRow K s label element q (a + 1) row_labels row_elements (set row_labels' i x) (set row_elements' i w)
-  filled_more q a i x w row_labels row_labels' row_elements row_elements' at room room' labelled weighs f =
-      record {
-        place =
-            λ b l.
-            elim (cases_eq b a) [
-              | inl last ↦
-                  (let here : q * s + b ≡ i = ap (λ c. q * s + c) last ∙ sym at in
-                  record {
-                    holds_label =
-                        ap (slice_index (set row_labels' i x)) here
-                        ∙ get_or-set_same row_labels' i x 0 room
-                        ∙ labelled
-                        ∙ ap (label q) (sym last);
-                    holds_element =
-                        ap (mean_at K (set row_elements' i w)) here
-                        ∙ mean_set_same K row_elements' i w room'
-                        ∙ weighs
-                        ∙ ap (element q) (sym last);
-                  })
-              | inr other ↦
-                  (let apart : q * s + b ≢ i = λ e. other (omega arith) in
-                  let old = f.place b (omega arith) in
-                  record {
-                    holds_label = get_or-set_other row_labels' i (q * s + b) x 0 apart ∙ old.holds_label;
-                    holds_element = mean_set_other K row_elements' i (q * s + b) w apart ∙ old.holds_element;
-                  })
-            ];
-        labels_before =
-            λ j l.
-            let apart : j ≢ i = λ e. omega arith in
-            get_or-set_other row_labels' i j x 0 apart ∙ f.labels_before j l;
-        elements_before =
-            λ j l.
-            let apart : j ≢ i = λ e. omega arith in
-            mean_set_other K row_elements' i j w apart ∙ f.elements_before j l;
-      }
-
-  pub filled_row_more :
-      (q : ℕ) (row_labels row_labels' : List ℕ) (row_elements row_elements' : List W) →
-      Filled K s label element q row_labels row_elements → FilledRow K s label element q s row_labels row_elements row_labels' row_elements' →
-      Filled K s label element (q + 1) row_labels' row_elements'
-  filled_row_more q row_labels row_labels' row_elements row_elements' f r =
-      record {
-        place =
-            λ p a l m.
-            elim (cases_eq p q) [
-              | inl last ↦ subst (λ o. FilledPlace K s label element o a row_labels' row_elements') (sym last) (r.place a m)
-              | inr other ↦
-                  (let before : p * s + a < q * s = omega (arith, row_fits p s q s (omega arith) (omega arith)) in
-                  let old = f.place p a (omega arith) m in
-                  record {
-                    holds_label = r.labels_before (p * s + a) before ∙ old.holds_label;
-                    holds_element = r.elements_before (p * s + a) before ∙ old.holds_element;
-                  })
-            ];
-      }
 
 -- so many labels there are to begin with
 pub begun_count : (label : ℕ → ℕ) (n : ℕ) → ((q : ℕ) → q < n → label q ≡ q) → n ≡ kept_below (leads label) n

@@ -13,7 +13,8 @@ use Rattle.theory.specs.Hyper.{Representative, Factor}
 use Rattle.theory.proofs.Basics.{multiple_sym, multiple_trans, multiple_later, multiple_accepts, walked, weight_walked}
 use Rattle.theory.proofs.Search.{co_kernel_not_preamble}
 use Rattle.minimize.specs.Steps.{Told, Marked, AlmostClasses}
-use Rattle.minimize.specs.Choosing.{has_mark, rank, Chosen, factor_towards}
+use Rattle.minimize.specs.Steps.{has_mark}
+use Rattle.minimize.specs.Choosing.{rank, Chosen, factor_towards}
 use Rattle.minimize.proofs.Memory.{mean_set_same, mean_set_other}
 
 -- what a mark tells

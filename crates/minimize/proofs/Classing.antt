@@ -1,13 +1,11 @@
 -- Rounds that refine labels keep equivalent states together, and labels that no round refines are the classes. Assumes nothing.
-use Rattle.std.proofs.Common.{◌≡◌, ◌≢◌, ℕ, zero, suc, ◌+◌, ◌*◌, ◌<◌, ◌≤◌, Bool, true, false, cond, eqb, List, [], ◌∷◌, ◌++◌, length, set, take, drop, Some, ◌⊎◌, inl, inr, sym, refl, ap, ◌∙◌, subst, arith}
+use Rattle.std.proofs.Common.{◌≡◌, ◌≢◌, ℕ, zero, suc, ◌+◌, ◌*◌, ◌<◌, ◌≤◌, Bool, true, false, cond, eqb, List, [], ◌∷◌, ◌++◌, length, take, drop, Some, ◌⊎◌, inl, inr, sym, refl, ap, ◌∙◌, subst, arith}
 use Rattle.std.proofs.lemmas.Bool.{cases_Bool, cases_eq, eqb-true, eq-eqb}
-use Rattle.std.proofs.lemmas.List.{length-take-le, get_or_append_left, get_or-take, get_or-set_same, get_or-set_other}
-use Rattle.std.proofs.lemmas.Nat.{row_fits}
+use Rattle.std.proofs.lemmas.List.{length-take-le, get_or_append_left, get_or-take}
 use Rattle.std.specs.Prelude.{slice_index}
 use Rattle.weights.specs.Codes.{within}
 use Rattle.weights.specs.Group.{Group, Kind}
 use Rattle.tables.specs.Table.{Table, Word, scaled, weight_from}
-use Rattle.tables.specs.Sheet.{mean_at}
 use Rattle.tables.proofs.Reading.{some_injective}
 use Rattle.theory.specs.Runs.{Closed, accepts}
 use Rattle.theory.specs.Series.{Equivalent}
@@ -17,10 +15,10 @@ use Rattle.theory.proofs.Basics.{scaled_one, factor_told}
 use Rattle.theory.proofs.Search.{smallest_unique, live_not_dead}
 use Rattle.minimize.specs.Steps.{leads, LivePush, Normal, Classes}
 use Rattle.minimize.specs.Group.{Grouped, SameRow}
-use Rattle.minimize.specs.Classing.{OneRow, Refined, FilledArc, FilledRow, Filled}
+use Rattle.minimize.specs.Classing.{OneRow, Refined, target_label}
+use Rattle.minimize.specs.Filling.{Filled}
 use Rattle.minimize.proofs.Alike.{smallest_moved, dead_moved, equivalent_accepts, equivalent_turned, equivalent_next}
 use Rattle.minimize.proofs.Keeping.{kept_few, kept_fewer, kept_stands}
-use Rattle.minimize.proofs.Memory.{mean_set_same, mean_set_other}
 
 -- what the first n places hold after a copy
 pub copied_below :
@@ -267,79 +265,10 @@ module _ (G : Group) (t : Table G.Mean) (d : ℕ → ℕ) where
 
 -- the rows of states
 module _ {W : Type 0} (K : Kind W) (t : Table K.group.Mean) where
-  pub filled_none : (labels : List ℕ) (q : ℕ) (row_labels : List ℕ) (row_elements : List W) → FilledRow K t labels q 0 row_labels row_elements row_labels row_elements
-  filled_none labels q row_labels row_elements =
-      record { arc = λ a l. absurd (omega arith); labels_before = λ i l. refl; elements_before = λ i l. refl }
-
-  pub filled_more :
-      (labels : List ℕ) (q a i x : ℕ) (w : W) (row_labels row_labels' : List ℕ) (row_elements row_elements' : List W) →
-      i ≡ q * t.letters + a → i < length row_labels' → i < length row_elements' → x ≡ slice_index labels (t.target q a) → K.mean w ≡ t.weight q a →
-      FilledRow K t labels q a row_labels row_elements row_labels' row_elements' →
-      FilledRow K t labels q (a + 1) row_labels row_elements (set row_labels' i x) (set row_elements' i w)
-  filled_more labels q a i x w row_labels row_labels' row_elements row_elements' at room room' label weighs f =
-      record {
-        arc =
-            λ b l.
-            elim (cases_eq b a) [
-              | inl last ↦
-                  (let here : q * t.letters + b ≡ i = ap (λ c. q * t.letters + c) last ∙ sym at in
-                  record {
-                    label =
-                        ap (slice_index (set row_labels' i x)) here
-                        ∙ get_or-set_same row_labels' i x 0 room
-                        ∙ label
-                        ∙ ap (λ c. slice_index labels (t.target q c)) (sym last);
-                    element =
-                        ap (mean_at K (set row_elements' i w)) here
-                        ∙ mean_set_same K row_elements' i w room'
-                        ∙ weighs
-                        ∙ ap (t.weight q) (sym last);
-                  })
-              | inr other ↦
-                  (let apart : q * t.letters + b ≢ i = λ e. other (omega arith) in
-                  let old = f.arc b (omega arith) in
-                  record {
-                    label = get_or-set_other row_labels' i (q * t.letters + b) x 0 apart ∙ old.label;
-                    element = mean_set_other K row_elements' i (q * t.letters + b) w apart ∙ old.element;
-                  })
-            ];
-        labels_before =
-            λ j l.
-            let apart : j ≢ i = λ e. omega arith in
-            get_or-set_other row_labels' i j x 0 apart ∙ f.labels_before j l;
-        elements_before =
-            λ j l.
-            let apart : j ≢ i = λ e. omega arith in
-            mean_set_other K row_elements' i j w apart ∙ f.elements_before j l;
-      }
-
-  pub filled_row_more :
-      (labels : List ℕ) (q : ℕ) (row_labels row_labels' : List ℕ) (row_elements row_elements' : List W) →
-      Filled K t labels q row_labels row_elements → FilledRow K t labels q t.letters row_labels row_elements row_labels' row_elements' →
-      Filled K t labels (q + 1) row_labels' row_elements'
-  filled_row_more labels q row_labels row_labels' row_elements row_elements' f r =
-      record {
-        arc =
-            λ p a l m.
-            elim (cases_eq p q) [
-              | inl last ↦ subst (λ o. FilledArc K t labels o a row_labels' row_elements') (sym last) (r.arc a m)
-              | inr other ↦
-                  (let before : p * t.letters + a < q * t.letters = place_before p q t.letters a (omega arith) m in
-                  let old = f.arc p a (omega arith) m in
-                  record {
-                    label = r.labels_before (p * t.letters + a) before ∙ old.label;
-                    element = r.elements_before (p * t.letters + a) before ∙ old.element;
-                  })
-            ];
-      }
-    where
-      place_before : (p q s a : ℕ) → p < q → a < s → p * s + a < q * s
-      place_before p q s a l m = omega (arith, row_fits p s q s l (omega arith))
-
   -- first rows of equal rows are a round's labels
   pub grouped_refined :
       (label : ℕ → ℕ) (keys row_labels firsts : List ℕ) (row_elements : List W) (m : ℕ) → Closed t → ((q : ℕ) → q < t.states → slice_index keys q ≡ label q) →
-      Filled K t keys t.states row_labels row_elements → Grouped K t.letters t.states keys row_labels row_elements (slice_index firsts) m →
+      Filled K t.letters (target_label t keys) t.weight t.states row_labels row_elements → Grouped K t.letters t.states keys row_labels row_elements (slice_index firsts) m →
       Refined K.group t label (slice_index firsts) m
   grouped_refined label keys row_labels firsts row_elements m closed copied f g =
       record {
@@ -349,21 +278,21 @@ module _ {W : Type 0} (K : Kind W) (t : Table K.group.Mean) where
         count = g.count;
       }
     where
-      target_label : (q a : ℕ) → q < t.states → a < t.letters → slice_index row_labels (q * t.letters + a) ≡ label (t.target q a)
-      target_label q a l m = (f.arc q a l m).label ∙ copied (t.target q a) (closed.target_inside q a l m)
+      row_label_of : (q a : ℕ) → q < t.states → a < t.letters → slice_index row_labels (q * t.letters + a) ≡ label (t.target q a)
+      row_label_of q a l m = (f.place q a l m).holds_label ∙ copied (t.target q a) (closed.target_inside q a l m)
 
       one_row : (q p : ℕ) → q < t.states → p < t.states → SameRow K t.letters keys row_labels row_elements q p → OneRow K.group t label q p
       one_row q p l k e =
           record {
             key = sym (copied q l) ∙ e.key ∙ copied p k;
-            target = λ a m. sym (target_label q a l m) ∙ e.label a m ∙ target_label p a k m;
-            weight = λ a m. sym (f.arc q a l m).element ∙ e.element a m ∙ (f.arc p a k m).element;
+            target = λ a m. sym (row_label_of q a l m) ∙ e.label a m ∙ row_label_of p a k m;
+            weight = λ a m. sym (f.place q a l m).holds_element ∙ e.element a m ∙ (f.place p a k m).holds_element;
           }
 
       same_row : (q p : ℕ) → q < t.states → p < t.states → OneRow K.group t label q p → SameRow K t.letters keys row_labels row_elements q p
       same_row q p l k e =
           record {
             key = copied q l ∙ e.key ∙ sym (copied p k);
-            label = λ a m. target_label q a l m ∙ e.target a m ∙ sym (target_label p a k m);
-            element = λ a m. (f.arc q a l m).element ∙ e.weight a m ∙ sym (f.arc p a k m).element;
+            label = λ a m. row_label_of q a l m ∙ e.target a m ∙ sym (row_label_of p a k m);
+            element = λ a m. (f.place q a l m).holds_element ∙ e.weight a m ∙ sym (f.place p a k m).holds_element;
           }

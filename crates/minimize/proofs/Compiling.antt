@@ -15,7 +15,8 @@ use Rattle.theory.proofs.Fewest.{hyper_is_smallest}
 use Rattle.theory.proofs.Kept.{counts_alike}
 use Rattle.minimize.specs.Rows.{rows_table}
 use Rattle.minimize.specs.Steps.{Told, Marked, AlmostClasses}
-use Rattle.minimize.specs.Choosing.{has_mark, Choices, is_kept, Redirected}
+use Rattle.minimize.specs.Steps.{has_mark}
+use Rattle.minimize.specs.Choosing.{Choices, is_kept, Redirected}
 use Rattle.minimize.specs.Compile.{says_kernel, says_co_kernel, Written, Promised}
 use Rattle.minimize.proofs.HyperTable.{hyper_table}
 

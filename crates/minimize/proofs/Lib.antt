@@ -14,3 +14,4 @@ pub mod HyperTable
 pub mod Redirecting
 pub mod Remarking
 pub mod Compiling
+pub mod Filling

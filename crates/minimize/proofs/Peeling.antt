@@ -11,7 +11,8 @@ use Rattle.tables.specs.Book.{laid}
 use Rattle.weights.specs.Group.{Group, Kind}
 use Rattle.minimize.specs.Rows.{rows_table}
 use Rattle.minimize.specs.Steps.{none, Told, Pushes, Normal, Marked}
-use Rattle.minimize.specs.Peeling.{marked, TellsDead, Arc, Back, Held, Holding, Peeled, Added}
+use Rattle.minimize.specs.Steps.{has_mark}
+use Rattle.minimize.specs.Peeling.{TellsDead, Arc, Back, Held, Holding, Peeled, Added}
 use Rattle.minimize.proofs.Keeping.{kept_stands}
 
 -- a word over s letters of at least k letters has a property
@@ -224,7 +225,7 @@ module _ {M : Type 0} (t : Table M) (closed : Closed t) (m left : ℕ → Bool) 
 -- all states are marked at first
 pub kernel_first :
     {M : Type 0} (t : Table M) (m : List ℕ) (k : ℕ) → ((q : ℕ) → q < t.states → Reachable t q) → t.states ≤ k →
-    m ≡ replicate k 1 → Peeling t.states t.letters (LeadsTo t) (marked m) × ((q : ℕ) → q < t.states → get_or m q 0 ≤ 1)
+    m ≡ replicate k 1 → Peeling t.states t.letters (LeadsTo t) (has_mark m) × ((q : ℕ) → q < t.states → get_or m q 0 ≤ 1)
 kernel_first t m k reached room filled = (
   record {
     some = λ q l e. let r = reached q l in (r.by, r.is_word, omega arith, r.leads);
@@ -257,8 +258,8 @@ normal_tells G t d normal = pushes_tell G t d (λ q. G.one) normal.pushes
 -- what the two searches tell
 pub marked_told :
     (G : Group) (t : Table G.Mean) (kernel co_kernel : List ℕ) →
-    ((q : ℕ) → q < t.states → Told (marked kernel q) (Kernel t q) (Preamble t q)) →
-    ((q : ℕ) → q < t.states → Told (marked co_kernel q) (CoKernel t q) (CoPreamble t q)) → Marked G t (marked kernel) (marked co_kernel)
+    ((q : ℕ) → q < t.states → Told (has_mark kernel q) (Kernel t q) (Preamble t q)) →
+    ((q : ℕ) → q < t.states → Told (has_mark co_kernel q) (CoKernel t q) (CoPreamble t q)) → Marked G t (has_mark kernel) (has_mark co_kernel)
 marked_told G t kernel co_kernel k o = record { kernel = k; co_kernel = o }
 
 -- writing kernel and co-kernel into the marks keeps which states are final

@@ -1,12 +1,12 @@
 -- Rows of states towards labels and factors, and rounds that gather almost-equivalent states by them. Assumes nothing.
-use Rattle.std.specs.Prelude.{◌≡◌, ℕ, zero, suc, ◌+◌, ◌*◌, ◌<◌, ◌≤◌, Bool, cond, List, length, slice_index}
+use Rattle.std.specs.Prelude.{◌≡◌, ℕ, zero, suc, ◌<◌, ◌≤◌, Bool, cond, length, slice_index}
 use Rattle.weights.specs.Group.{Group, Kind}
 use Rattle.tables.specs.Table.{Table}
 use Rattle.tables.specs.Sheet.{mean_at}
 use Rattle.theory.specs.Hyper.{kept_below}
 use Rattle.minimize.specs.Rows.{Laid, rows_table, laid_rows}
 use Rattle.minimize.specs.Steps.{none, leads}
-use Rattle.minimize.specs.Choosing.{has_mark}
+use Rattle.minimize.specs.Steps.{has_mark}
 use Rattle.minimize.specs.declared.almost.Reading.{Reading}
 
 module _ (G : Group) (t : Table G.Mean) where
@@ -39,22 +39,6 @@ module _ (G : Group) (t : Table G.Mean) (o : ℕ → Bool) (label : ℕ → ℕ)
     pub one_first : (q p : ℕ) → q < t.states → p < t.states → OneRow q p → label' q ≡ label' p
     pub towards : (q : ℕ) → q < t.states → factor' q ≡ G.mul (base G t o factor q t.letters) (G.inv (base G t o factor (label' q) t.letters))
     pub count : m ≡ kept_below (leads label') t.states
-
--- rows of s labels and s elements
-module _ {W : Type 0} (K : Kind W) (s : ℕ) (label : ℕ → ℕ → ℕ) (element : ℕ → ℕ → K.group.Mean) where
-  pub record FilledPlace (q a : ℕ) (row_labels : List ℕ) (row_elements : List W) : Type 0 where
-    pub holds_label : slice_index row_labels (q * s + a) ≡ label q a
-    pub holds_element : mean_at K row_elements (q * s + a) ≡ element q a
-
-  -- the first m places of row q are filled, and what lies before the row is as it was
-  pub record FilledRow (q m : ℕ) (row_labels : List ℕ) (row_elements : List W) (row_labels' : List ℕ) (row_elements' : List W) : Type 0 where
-    pub place : (a : ℕ) → a < m → FilledPlace q a row_labels' row_elements'
-    pub labels_before : (i : ℕ) → i < q * s → slice_index row_labels' i ≡ slice_index row_labels i
-    pub elements_before : (i : ℕ) → i < q * s → mean_at K row_elements' i ≡ mean_at K row_elements i
-
-  -- the first n rows are filled
-  pub record Filled (n : ℕ) (row_labels : List ℕ) (row_elements : List W) : Type 0 where
-    pub place : (q a : ℕ) → q < n → a < s → FilledPlace q a row_labels row_elements
 
 -- what is read
 module _ {W : Type 0} (K : Kind W) (r : Reading W) where

@@ -4,10 +4,7 @@ use Rattle.weights.specs.Group.{Group, Kind}
 use Rattle.tables.specs.Table.{Table}
 use Rattle.tables.specs.Sheet.{mean_at}
 use Rattle.theory.specs.Hyper.{kept_below}
-
--- a state has a mark
-abbrev pub has_mark : List ℕ → ℕ → Bool
-has_mark marks q = slice_index marks q == 1
+use Rattle.minimize.specs.Steps.{has_mark}
 
 -- the leader of a label that has none
 abbrev pub no_leader : ℕ

@@ -12,3 +12,4 @@ pub mod Choosing
 pub mod Almost
 pub mod Redirecting
 pub mod Outcome
+pub mod Filling

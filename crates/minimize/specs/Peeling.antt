@@ -1,12 +1,8 @@
 -- Peeling: of the marked states, those that no marked state holds lose their mark, round by round. Assumes nothing.
-use Rattle.std.specs.Prelude.{◌≡◌, ℕ, ◌<◌, ◌⊎◌, Bool, true, List, slice_index, ◌==◌}
+use Rattle.std.specs.Prelude.{◌≡◌, ℕ, ◌<◌, ◌⊎◌, Bool, true, ◌==◌}
 use Rattle.tables.specs.Table.{Table}
 use Rattle.theory.specs.Runs.{Dead, Live}
 use Rattle.minimize.specs.Steps.{none, Told}
-
--- a state has mark 1
-abbrev pub marked : List ℕ → ℕ → Bool
-marked marks q = slice_index marks q == 1
 
 module _ {M : Type 0} (t : Table M) where
   -- an arc by one of the first s letters leads from state p to state q

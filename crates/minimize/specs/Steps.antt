@@ -1,6 +1,6 @@
 -- What each step of compiling comes to, over tables: from a source to its least table, and from that to its hyper table.
 -- Assumes nothing.
-use Rattle.std.specs.Prelude.{◌≡◌, ℕ, ◌<◌, ◌≤◌, Bool, true, false, cond, List, length, Some, ◌⊎◌, ◌==◌}
+use Rattle.std.specs.Prelude.{◌≡◌, ℕ, ◌<◌, ◌≤◌, Bool, true, false, cond, List, length, Some, ◌⊎◌, ◌==◌, slice_index}
 use Rattle.weights.specs.Group.{Group}
 use Rattle.tables.specs.Table.{Table, weight_from}
 use Rattle.theory.specs.Runs.{Closed, Reachable, Dead}
@@ -21,6 +21,10 @@ leads label q = label q == q
 -- the number of a state's class: how many classes come before it
 abbrev pub number : (ℕ → ℕ) → ℕ → ℕ
 number label q = kept_below (leads label) (label q)
+
+-- a state has a mark, where a list of numbers has 1 for it
+abbrev pub has_mark : List ℕ → ℕ → Bool
+has_mark marks q = slice_index marks q == 1
 
 -- one fact or another, by a mark
 abbrev pub Told : Bool → Type 0 → Type 0 → Type 0

@@ -4,8 +4,9 @@ ghost use Rattle.theory.specs.Series.{Equivalent};
 ghost use Rattle.theory.specs.Kernel.{CoKernel, CoPreamble};
 ghost use Rattle.minimize.specs.Rows.{Laid, rows_table, laid_rows};
 ghost use Rattle.minimize.specs.Steps.{Told, AlmostClasses};
-ghost use Rattle.minimize.specs.Choosing.{has_mark};
-ghost use Rattle.minimize.specs.Almost.{Ready, read_table, read_weight, read_base, read_label, read_element, FilledRow, Filled, Regrouped};
+ghost use Rattle.minimize.specs.Steps.{has_mark};
+ghost use Rattle.minimize.specs.Almost.{Ready, read_table, read_weight, read_base, read_label, read_element, Regrouped};
+ghost use Rattle.minimize.specs.Filling.{FilledRow, Filled};
 
 use crate::group::group;
 use crate::rows::Rows;

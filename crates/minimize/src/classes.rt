@@ -1,7 +1,8 @@
 ghost use Rattle.std.specs.Prelude.{◌≡◌, ◌+◌, ◌*◌, ◌<◌, ◌≤◌, length, slice_index};
 ghost use Rattle.minimize.specs.Rows.{Laid, rows_table, laid_rows};
 ghost use Rattle.minimize.specs.Steps.{Normal, Classes};
-ghost use Rattle.minimize.specs.Classing.{Filled, FilledRow, Refined};
+ghost use Rattle.minimize.specs.Classing.{Refined, target_label};
+ghost use Rattle.minimize.specs.Filling.{Filled, FilledRow};
 
 use crate::group::group;
 use crate::rows::Rows;
@@ -20,7 +21,7 @@ fn fill_row<W: Weight>(
     requires labelled { rows.now.count ≤ length labels.now }
     requires label_room { rows.now.count * rows.now.letters ≤ length row_labels.old }
     requires element_room { rows.now.count * rows.now.letters ≤ length row_elements.old }
-    ensures { FilledRow W.kind (rows_table W.kind (laid_rows rows.now)) labels.now state rows.now.letters row_labels.old row_elements.old row_labels.new row_elements.new }
+    ensures { FilledRow W.kind rows.now.letters (target_label (rows_table W.kind (laid_rows rows.now)) labels.now) (rows_table W.kind (laid_rows rows.now)).weight state rows.now.letters row_labels.old row_elements.old row_labels.new row_elements.new }
 {
     let from = usize::from(state) * usize::from(rows.letters);
     for letter in 0..rows.letters {
@@ -41,7 +42,7 @@ fn fill_rows<W: Weight>(
     requires labelled { rows.now.count ≤ length labels.now }
     requires label_room { rows.now.count * rows.now.letters ≤ length row_labels.old }
     requires element_room { rows.now.count * rows.now.letters ≤ length row_elements.old }
-    ensures { Filled W.kind (rows_table W.kind (laid_rows rows.now)) labels.now rows.now.count row_labels.new row_elements.new }
+    ensures { Filled W.kind rows.now.letters (target_label (rows_table W.kind (laid_rows rows.now)) labels.now) (rows_table W.kind (laid_rows rows.now)).weight rows.now.count row_labels.new row_elements.new }
 {
     for state in 0..rows.count {
         fill_row(rows, state, labels, row_labels, row_elements);

@@ -7,7 +7,7 @@ ghost use Rattle.theory.specs.Least.{Least};
 ghost use Rattle.theory.specs.Hyper.{kept_below};
 ghost use Rattle.minimize.specs.Rows.{Laid, rows_table};
 ghost use Rattle.minimize.specs.Steps.{Marked};
-ghost use Rattle.minimize.specs.Choosing.{has_mark};
+ghost use Rattle.minimize.specs.Steps.{has_mark};
 ghost use Rattle.minimize.specs.Compile.{says_kernel, Written};
 
 use crate::almost::find_almost;

@@ -4,7 +4,8 @@ ghost use Rattle.theory.specs.Kernel.{Kernel, Preamble, CoKernel, CoPreamble};
 ghost use Rattle.theory.specs.Hyper.{kept_below};
 ghost use Rattle.minimize.specs.Rows.{Laid, rows_table, laid_rows};
 ghost use Rattle.minimize.specs.Steps.{none, Told};
-ghost use Rattle.minimize.specs.Peeling.{marked, Arc, Back, TellsDead, Held, Holding, Peeled, Added};
+ghost use Rattle.minimize.specs.Steps.{has_mark};
+ghost use Rattle.minimize.specs.Peeling.{Arc, Back, TellsDead, Held, Holding, Peeled, Added};
 
 use crate::rows::Rows;
 use weights::Weight;
@@ -15,7 +16,7 @@ const NONE: u16 = 65535;
 // How many states are marked.
 pub(crate) fn count_marked(marks: &[u16], count: u16) -> u16
     requires { count ≤ length marks.now }
-    ensures { result ≡ kept_below (marked marks.now) count }
+    ensures { result ≡ kept_below (has_mark marks.now) count }
 {
     let mut total = 0;
     for state in 0..count {
@@ -30,7 +31,7 @@ pub(crate) fn count_marked(marks: &[u16], count: u16) -> u16
 fn unmark(marks: &mut [u16], held: &[u16], count: u16)
     requires room { count ≤ length marks.old }
     requires held_room { count ≤ length held.now }
-    ensures marks { (q : ℕ) → q < count → slice_index marks.new q ≡ cond (marked held.now q) (slice_index marks.old q) 0 }
+    ensures marks { (q : ℕ) → q < count → slice_index marks.new q ≡ cond (has_mark held.now q) (slice_index marks.old q) 0 }
     ensures length { length marks.new ≡ length marks.old }
 {
     for state in 0..usize::from(count) {
@@ -44,9 +45,9 @@ fn unmark(marks: &mut [u16], held: &[u16], count: u16)
 fn keep_held(marks: &mut [u16], held: &[u16], count: u16) -> bool
     requires room { count ≤ length marks.old }
     requires held_room { count ≤ length held.now }
-    ensures marks { (q : ℕ) → q < count → slice_index marks.new q ≡ cond (marked held.now q) (slice_index marks.old q) 0 }
+    ensures marks { (q : ℕ) → q < count → slice_index marks.new q ≡ cond (has_mark held.now q) (slice_index marks.old q) 0 }
     ensures length { length marks.new ≡ length marks.old }
-    ensures fewer { result ≡ nat_lt (kept_below (marked marks.new) count) (kept_below (marked marks.old) count) }
+    ensures fewer { result ≡ nat_lt (kept_below (has_mark marks.new) count) (kept_below (has_mark marks.old) count) }
 {
     let before = count_marked(marks, count);
     unmark(marks, held, count);
@@ -58,7 +59,7 @@ fn hold_row<W: Weight>(rows: Rows<'_, W>, state: u16, held: &mut [u16])
     requires laid { Laid W.kind (laid_rows rows) }
     requires inside { state < rows.count }
     requires room { rows.count ≤ length held.old }
-    ensures added { Added (Arc (rows_table W.kind (laid_rows rows.entry)) state) (marked held.old) (marked held.new) }
+    ensures added { Added (Arc (rows_table W.kind (laid_rows rows.entry)) state) (has_mark held.old) (has_mark held.new) }
     ensures length { length held.new ≡ length held.old }
 {
     for letter in 0..rows.letters {
@@ -72,7 +73,7 @@ fn hold_targets<W: Weight>(rows: Rows<'_, W>, marks: &[u16], held: &mut [u16])
     requires laid { Laid W.kind (laid_rows rows) }
     requires room { rows.count ≤ length marks.now }
     requires held_room { rows.count ≤ length held.old }
-    ensures holding { Holding rows.entry.count rows.entry.count (Arc (rows_table W.kind (laid_rows rows.entry))) (marked marks.now) (marked held.new) }
+    ensures holding { Holding rows.entry.count rows.entry.count (Arc (rows_table W.kind (laid_rows rows.entry))) (has_mark marks.now) (has_mark held.new) }
     ensures length { length held.new ≡ length held.old }
 {
     held.fill(0);
@@ -88,7 +89,7 @@ fn leads_to_marked<W: Weight>(rows: Rows<'_, W>, state: u16, marks: &[u16]) -> b
     requires laid { Laid W.kind (laid_rows rows) }
     requires inside { state < rows.count }
     requires room { rows.count ≤ length marks.now }
-    ensures { Decides result (Held rows.entry.count (Back (rows_table W.kind (laid_rows rows.entry))) (marked marks.now) state) }
+    ensures { Decides result (Held rows.entry.count (Back (rows_table W.kind (laid_rows rows.entry))) (has_mark marks.now) state) }
 {
     for letter in 0..rows.letters {
         if marks[usize::from(rows.target(state, letter))] == 1 {
@@ -103,7 +104,7 @@ fn hold_sources<W: Weight>(rows: Rows<'_, W>, marks: &[u16], held: &mut [u16])
     requires laid { Laid W.kind (laid_rows rows) }
     requires room { rows.count ≤ length marks.now }
     requires held_room { rows.count ≤ length held.old }
-    ensures holding { Holding rows.entry.count rows.entry.count (Back (rows_table W.kind (laid_rows rows.entry))) (marked marks.now) (marked held.new) }
+    ensures holding { Holding rows.entry.count rows.entry.count (Back (rows_table W.kind (laid_rows rows.entry))) (has_mark marks.now) (has_mark held.new) }
     ensures length { length held.new ≡ length held.old }
 {
     for state in 0..rows.count {
@@ -116,10 +117,10 @@ fn peel_kernel<W: Weight>(rows: Rows<'_, W>, kernel: &mut [u16], held: &mut [u16
     requires laid { Laid W.kind (laid_rows rows) }
     requires room { rows.count ≤ length kernel.old }
     requires held_room { rows.count ≤ length held.old }
-    ensures peeled { Peeled rows.entry.count (Arc (rows_table W.kind (laid_rows rows.entry))) (marked kernel.old) (marked kernel.new) }
+    ensures peeled { Peeled rows.entry.count (Arc (rows_table W.kind (laid_rows rows.entry))) (has_mark kernel.old) (has_mark kernel.new) }
     ensures small { (q : ℕ) → q < rows.entry.count → slice_index kernel.new q ≤ slice_index kernel.old q }
     ensures length { (length kernel.new ≡ length kernel.old) × (length held.new ≡ length held.old) }
-    ensures fewer { result ≡ nat_lt (kept_below (marked kernel.new) rows.entry.count) (kept_below (marked kernel.old) rows.entry.count) }
+    ensures fewer { result ≡ nat_lt (kept_below (has_mark kernel.new) rows.entry.count) (kept_below (has_mark kernel.old) rows.entry.count) }
 {
     hold_targets(rows, kernel, held);
     keep_held(kernel, held, rows.count)
@@ -130,10 +131,10 @@ fn peel_co_kernel<W: Weight>(rows: Rows<'_, W>, co_kernel: &mut [u16], held: &mu
     requires laid { Laid W.kind (laid_rows rows) }
     requires room { rows.count ≤ length co_kernel.old }
     requires held_room { rows.count ≤ length held.old }
-    ensures peeled { Peeled rows.entry.count (Back (rows_table W.kind (laid_rows rows.entry))) (marked co_kernel.old) (marked co_kernel.new) }
+    ensures peeled { Peeled rows.entry.count (Back (rows_table W.kind (laid_rows rows.entry))) (has_mark co_kernel.old) (has_mark co_kernel.new) }
     ensures small { (q : ℕ) → q < rows.entry.count → slice_index co_kernel.new q ≤ slice_index co_kernel.old q }
     ensures length { (length co_kernel.new ≡ length co_kernel.old) × (length held.new ≡ length held.old) }
-    ensures fewer { result ≡ nat_lt (kept_below (marked co_kernel.new) rows.entry.count) (kept_below (marked co_kernel.old) rows.entry.count) }
+    ensures fewer { result ≡ nat_lt (kept_below (has_mark co_kernel.new) rows.entry.count) (kept_below (has_mark co_kernel.old) rows.entry.count) }
 {
     hold_sources(rows, co_kernel, held);
     keep_held(co_kernel, held, rows.count)

@@ -1,6 +1,6 @@
 use Rattle.std.proofs.Common.{arith}
 use Rattle.std.proofs.lemmas.Grind.{common_steps}
-use Rattle.minimize.proofs.AlmostClasses.{means_more}
+use Rattle.minimize.proofs.Choosing.{means_more}
 use Rattle.minimize.proofs.almost.begin.Goals as goal
 
 pub loop-state-preserved : goal.loop-state-preserved

@@ -3,7 +3,7 @@ use Rattle.tables.specs.Sheet.{mean_at}
 use Rattle.theory.specs.Hyper.{kept_below}
 use Rattle.minimize.specs.Rows.{rows_table, laid_rows}
 use Rattle.minimize.specs.Steps.{leads}
-use Rattle.minimize.specs.Choosing.{has_mark}
+use Rattle.minimize.specs.Steps.{has_mark}
 use Rattle.minimize.proofs.AlmostClasses.{Settled}
 use Rattle.minimize.proofs.almost.find_almost.Given as goal
 

@@ -1,6 +1,6 @@
 use Rattle.std.proofs.Common.{slice_index, arith}
 use Rattle.tables.specs.Sheet.{mean_at}
-use Rattle.minimize.proofs.AlmostClasses.{means_more}
+use Rattle.minimize.proofs.Choosing.{means_more}
 use Rattle.minimize.proofs.almost.write_factors.Goals as goal
 
 pub loop-state-preserved : goal.loop-state-preserved

@@ -2,7 +2,8 @@ use Rattle.std.proofs.Common.{◌≡◌, ◌+◌, ◌*◌, ◌<◌, length, slic
 use borrow.Author.Rules.{scaled_Fits}
 use Rattle.std.proofs.lemmas.Nat.{row_fits}
 use Rattle.minimize.specs.Rows.{rows_table, laid_rows}
-use Rattle.minimize.proofs.Classing.{filled_more}
+use Rattle.minimize.specs.Classing.{target_label}
+use Rattle.minimize.proofs.Filling.{filled_more}
 use Rattle.minimize.proofs.classes.fill_row.Goals as goal
 
 pub offset_bounds-row_elements-at : goal.offset_bounds-row_elements-at
@@ -24,7 +25,7 @@ loop-letter-preserved g c =
     let target : c.from-in-loop-letter-2.result ≡ t.target c.args.state c.loop-letter.letter =
     rw c.from-in-loop-letter-2.ensures c.target.ensures.value in
     let fits = row_fits c.args.state s rows.count s c.requires.inside (omega arith) in
-    filled_more K t c.args.labels.now c.args.state c.loop-letter.letter i
+    filled_more K s (target_label t c.args.labels.now) t.weight c.args.state c.loop-letter.letter i
     (slice_index c.args.labels.now c.from-in-loop-letter-2.result) c.weight.result c.args.row_labels.now c.loop-letter.row_labels
     c.args.row_elements.now c.loop-letter.row_elements at (omega arith) (omega arith)
     (ap (slice_index c.args.labels.now) target) c.weight.ensures c.loop-letter.invariant

@@ -1,7 +1,7 @@
 use Rattle.std.proofs.Common.{◌≡◌, ℕ, ◌%◌, ◌<◌, ◌==◌, slice_index}
 use Rattle.tables.specs.Book.{laid}
 use Rattle.minimize.specs.Rows.{rows_table}
-use Rattle.minimize.specs.Choosing.{has_mark}
+use Rattle.minimize.specs.Steps.{has_mark}
 use Rattle.minimize.proofs.Peeling.{final_stays}
 use Rattle.minimize.proofs.Remarking.{remarked_told_kernel, remarked_told_co_kernel}
 use Rattle.minimize.proofs.hyper.mark_states.Goals as goal

@@ -2,14 +2,14 @@ use Rattle.std.proofs.Common.{ℕ, ◌<◌, ◌≤◌, slice_index}
 use Rattle.theory.specs.Kernel.{AcceptedFrom}
 use Rattle.theory.specs.Hyper.{kept_below}
 use Rattle.minimize.specs.Rows.{rows_table, laid_rows}
-use Rattle.minimize.specs.Peeling.{marked}
+use Rattle.minimize.specs.Steps.{has_mark}
 use Rattle.minimize.proofs.Peeling.{Peeling}
 use Rattle.minimize.proofs.kernel.find_co_kernel.Given as goal
 
 abbrev pub invariant-rounds : goal.invariant-rounds
 invariant-rounds g l =
     let t = rows_table g.W.Weight.kind (laid_rows l.rows) in
-    Peeling t.states t.letters (AcceptedFrom t) (marked l.co_kernel) × ((q : ℕ) → q < l.rows.count → slice_index l.co_kernel q ≤ 1)
+    Peeling t.states t.letters (AcceptedFrom t) (has_mark l.co_kernel) × ((q : ℕ) → q < l.rows.count → slice_index l.co_kernel q ≤ 1)
 
 abbrev pub decreases-rounds : goal.decreases-rounds
-decreases-rounds g l = kept_below (marked l.co_kernel) l.rows.count
+decreases-rounds g l = kept_below (has_mark l.co_kernel) l.rows.count

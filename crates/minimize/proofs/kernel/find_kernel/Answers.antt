@@ -1,6 +1,6 @@
 use Rattle.std.proofs.Common.{length, arith}
 use Rattle.minimize.specs.Rows.{rows_table, laid_rows}
-use Rattle.minimize.specs.Peeling.{marked}
+use Rattle.minimize.specs.Steps.{has_mark}
 use Rattle.minimize.proofs.Peeling.{peeling_more, kernel_first, kernel_told, leading}
 use Rattle.minimize.proofs.kernel.find_kernel.Goals as goal
 
@@ -19,5 +19,5 @@ rounds-preserved g c =
 pub returns-clause-told : goal.returns-clause-told
 returns-clause-told g c =
     let t = rows_table g.W.Weight.kind (laid_rows c.args.rows) in
-    kernel_told t c.requires.laid.closed (marked c.rounds.kernel) (marked c.peel_kernel.new.kernel) c.rounds.invariant.0
+    kernel_told t c.requires.laid.closed (has_mark c.rounds.kernel) (has_mark c.peel_kernel.new.kernel) c.rounds.invariant.0
     c.peel_kernel.ensures.peeled (cc)

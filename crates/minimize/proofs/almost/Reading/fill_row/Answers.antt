@@ -2,7 +2,7 @@ use Rattle.std.proofs.Common.{◌≡◌, ◌+◌, ◌*◌, ◌<◌, length, arit
 use borrow.Author.Rules.{scaled_Fits}
 use Rattle.std.proofs.lemmas.Nat.{row_fits}
 use Rattle.minimize.specs.Almost.{read_label, read_element}
-use Rattle.minimize.proofs.AlmostClasses.{filled_more}
+use Rattle.minimize.proofs.Filling.{filled_more}
 use Rattle.minimize.proofs.almost.Reading.fill_row.Goals as goal
 
 pub offset_bounds-row_elements-at : goal.offset_bounds-row_elements-at

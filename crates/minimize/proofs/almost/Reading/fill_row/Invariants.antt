@@ -1,4 +1,5 @@
-use Rattle.minimize.specs.Almost.{FilledRow, read_label, read_element}
+use Rattle.minimize.specs.Almost.{read_label, read_element}
+use Rattle.minimize.specs.Filling.{FilledRow}
 use Rattle.minimize.proofs.almost.Reading.fill_row.Given as goal
 
 abbrev pub invariant-loop-letter : goal.invariant-loop-letter

@@ -1,6 +1,7 @@
 use Rattle.std.proofs.Common.{arith}
 use Rattle.minimize.specs.Almost.{read_label, read_element, read_base}
-use Rattle.minimize.proofs.AlmostClasses.{filled_row_more, means_more}
+use Rattle.minimize.proofs.Filling.{filled_row_more}
+use Rattle.minimize.proofs.Choosing.{means_more}
 use Rattle.minimize.proofs.almost.Reading.fill_rows.Goals as goal
 
 pub loop-state-preserved : goal.loop-state-preserved

@@ -1,6 +1,7 @@
 use Rattle.std.proofs.Common.{◌≡◌, ℕ, ◌<◌}
 use Rattle.tables.specs.Sheet.{mean_at}
-use Rattle.minimize.specs.Almost.{Filled, read_label, read_element, read_base}
+use Rattle.minimize.specs.Almost.{read_label, read_element, read_base}
+use Rattle.minimize.specs.Filling.{Filled}
 use Rattle.minimize.proofs.almost.Reading.fill_rows.Given as goal
 
 abbrev pub invariant-loop-state : goal.invariant-loop-state
