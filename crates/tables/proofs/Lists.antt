@@ -1,56 +1,50 @@
 -- Lists of calls, made one after another. Assumes nothing.
-use Rattle.std.proofs.Common.{◌≡◌, ℕ, suc, ◌+◌, ◌<◌, List, [], ◌∷◌, ◌++◌, length, get_or, take, set, Result, sym, refl, ap, ◌∙◌, subst, arith}
-use Rattle.std.proofs.lemmas.List.{take_more, length-take-le}
-use Rattle.weights.specs.Refusal.{Told}
-use Rattle.tables.specs.Book.{Contents}
-use Rattle.tables.specs.InStep.{InStep}
-use Rattle.tables.specs.Sketch.{Lengths, Sketch, sketched, sketch_answer, sketch_of, answers_of, written_into}
+use Rattle.std.proofs.Common.{◌≡◌, ℕ, suc, ◌+◌, ◌<◌, ◌≤◌, List, [], ◌∷◌, ◌++◌, length, get_or, take, drop, set, append_assoc, drop-cons, add-one, sym, ap, ◌∙◌, arith}
+use Rattle.std.proofs.lemmas.List.{take_more_set, length-map, get_or-map, map-set, length-set}
+use Rattle.std.proofs.Math.Seq.{map-set_same}
+use Rattle.weights.specs.Refusal.{outcome}
+use Rattle.tables.specs.Book.{Contents, answer_to, left_by, left_by_all, answers_by}
+use Rattle.tables.specs.Made.{calls_of, answers_in}
 use Rattle.tables.specs.declared.call.Call.{Call}
+use Rattle.tables.specs.declared.made.Made.{Made}
 
--- one more value is written after those that are
-pub set-written_into : {X : Type 0} (xs ys : List X) (y : X) → set (written_into xs ys) (length ys) y ≡ written_into xs (ys ++ (y ∷ []))
-set-written_into [] [] y = refl
-set-written_into (x ∷ xs) [] y = refl
-set-written_into [] (z ∷ ys) y = refl
-set-written_into (x ∷ xs) (z ∷ ys) y = ap (λ zs. z ∷ zs) (set-written_into xs ys y)
+-- Where a list of calls stands before call i of it: the calls are those of the list, what is left to be made leaves what the whole
+-- list leaves, and its answers end those of the whole list.
+pub record MadeBefore {W : Type 0} (old : Contents W) (before : List (Made W)) (i : ℕ) (c : Contents W) (ms : List (Made W)) : Type 0 where
+  pub in_range : i ≤ length ms
+  pub calls : calls_of ms ≡ calls_of before
+  pub answers : take i (answers_in ms) ++ answers_by c (drop i (calls_of before)) ≡ answers_by old (calls_of before)
+  pub contents : left_by_all c (drop i (calls_of before)) ≡ left_by_all old (calls_of before)
 
-module _ {W : Type 0} (n : Lengths) where
-  -- one more call
-  pub sketch_of-more : (s : Sketch W) (ks : List (Call W)) (k : Call W) → sketch_of n s (ks ++ (k ∷ [])) ≡ sketched n (sketch_of n s ks) k
-  sketch_of-more s [] k = refl
-  sketch_of-more s (j ∷ ks) k = sketch_of-more (sketched n s j) ks k
-
-  pub answers_of-more :
-      (s : Sketch W) (ks : List (Call W)) (k : Call W) →
-      answers_of n s (ks ++ (k ∷ [])) ≡ answers_of n s ks ++ (sketch_answer n (sketch_of n s ks) k ∷ [])
-  answers_of-more s [] k = refl
-  answers_of-more s (j ∷ ks) k = ap (λ rs. sketch_answer n s j ∷ rs) (answers_of-more (sketched n s j) ks k)
-
-  pub length-answers_of : (s : Sketch W) (ks : List (Call W)) → length (answers_of n s ks) ≡ length ks
-  length-answers_of s [] = refl
-  length-answers_of s (j ∷ ks) = ap suc (length-answers_of (sketched n s j) ks)
-
-  -- where a list of calls stands before call i: what the book holds, and the answers so far
-  pub record MadeBefore (s : Sketch W) (ks : List (Call W)) (i : ℕ) (c : Contents W) (before after : List (Result (Unit {0}) Told)) : Type 0 where
-    pub step : InStep n (sketch_of n s (take i ks)) c
-    pub answers : after ≡ written_into before (answers_of n s (take i ks))
-
-  -- one more call is made
-  pub made_more :
-      (s : Sketch W) (ks : List (Call W)) (i : ℕ) (k : Call W) (c : Contents W) (before after : List (Result (Unit {0}) Told)) →
-      i < length ks → k ≡ get_or ks i k → MadeBefore s ks i c before after →
-      (new : Contents W) → InStep n (sketched n (sketch_of n s (take i ks)) k) new →
-      MadeBefore s ks (i + 1) new before (set after i (sketch_answer n (sketch_of n s (take i ks)) k))
-  made_more s ks i k c before after l here h new step =
-      let more : take (i + 1) ks ≡ take i ks ++ (k ∷ []) = take_more ks i k l ∙ ap (λ j. take i ks ++ (j ∷ [])) (sym here) in
-      let so_far = answers_of n s (take i ks) in
-      let long : length so_far ≡ i = length-answers_of s (take i ks) ∙ length-take-le i ks (omega arith) in
-      let answer = sketch_answer n (sketch_of n s (take i ks)) k in
-      record {
-        step = subst (λ t. InStep n t new) (sym (ap (sketch_of n s) more ∙ sketch_of-more s (take i ks) k)) step;
-        answers =
-            ap (λ xs. set xs i answer) h.answers
-            ∙ ap (λ j. set (written_into before so_far) j answer) (sym long)
-            ∙ set-written_into before so_far answer
-            ∙ ap (written_into before) (sym (ap (answers_of n s) more ∙ answers_of-more s (take i ks) k));
-      }
+-- one more call is made
+pub made_more :
+    {W : Type 0} (old : Contents W) (before : List (Made W)) (i : ℕ) (c : Contents W) (ms : List (Made W)) (default new : Made W)
+    (d : Contents W) → MadeBefore old before i c ms → i < length ms → new.call ≡ (get_or ms i default).call →
+    outcome new.answer ≡ answer_to c (get_or ms i default).call → d ≡ left_by c (get_or ms i default).call →
+    MadeBefore old before (i + 1) d (set ms i new)
+made_more {W = W} old before i c ms default new d h l same answer leaves =
+    let k : Call W = (get_or ms i default).call in
+    let ks : List (Call W) = calls_of before in
+    let long : length ms ≡ length ks = sym (length-map ms (λ x. x.call)) ∙ ap length h.calls in
+    let inside : i < length ks = omega arith in
+    let here : get_or ks i k ≡ k = ap (λ xs. get_or xs i k) (sym h.calls) ∙ get_or-map (λ x. x.call) ms i default k l in
+    let rest : drop i ks ≡ k ∷ drop (i + 1) ks =
+    drop-cons ks i k inside ∙ ap (λ j. j ∷ drop (suc i) ks) here ∙ ap (λ j. k ∷ drop j ks) (sym (add-one i))
+    in
+    let answers_long : i < length (answers_in ms) = rw (length-map ms (λ x. outcome x.answer)) l in
+    let told : take (i + 1) (answers_in (set ms i new)) ≡ take i (answers_in ms) ++ (answer_to c k ∷ []) =
+    ap (take (i + 1)) (map-set (λ x. outcome x.answer) ms i new)
+    ∙ take_more_set (answers_in ms) i (outcome new.answer) answers_long
+    ∙ ap (λ r. take i (answers_in ms) ++ (r ∷ [])) answer
+    in
+    record {
+      in_range = rw (length-set ms i new) (omega arith);
+      calls = map-set_same (λ x. x.call) ms i new default same ∙ h.calls;
+      answers =
+          ap (λ rs. rs ++ answers_by d (drop (i + 1) ks)) told
+          ∙ append_assoc (take i (answers_in ms)) (answer_to c k ∷ []) (answers_by d (drop (i + 1) ks))
+          ∙ ap (λ e. take i (answers_in ms) ++ (answer_to c k ∷ answers_by e (drop (i + 1) ks))) leaves
+          ∙ ap (λ js. take i (answers_in ms) ++ answers_by c js) (sym rest)
+          ∙ h.answers;
+      contents = ap (λ e. left_by_all e (drop (i + 1) ks)) leaves ∙ ap (left_by_all c) (sym rest) ∙ h.contents;
+    }

@@ -7,17 +7,17 @@ use Rattle.weights.specs.Group.{Kind}
 use Rattle.weights.specs.Refusal.{Told, unless}
 use Rattle.weights.proofs.Judging.{unless_none}
 use Rattle.tables.specs.Call.{verdict, if_taken, may_rule, has_room, has_state, has_letter}
-use Rattle.tables.specs.Book.{Contents, size_of, place, unset, cleared, mark, opened, taken, left_by}
+use Rattle.tables.specs.Book.{Contents, size_of, place, unset, cleared, mark, opened, taken, left_by, left_by_all}
 use Rattle.tables.specs.Sheet.{drawn, width, entry_at, mean_at, leads, led_to, led_by, is_drawn, sheet_table}
-use Rattle.tables.specs.Sketch.{Lengths, Link, Sketch, blank, sketch_size, drawn_on, sketched, sketch_of, link_to, link_by, sketch_table}
-use Rattle.tables.specs.InStep.{Holds, InStep}
+use Rattle.tables.specs.Sketch.{Lengths, lengths_of, Link, Sketch, blank, sketch_size, drawn_on, sketched, sketch_of, link_to, link_by, sketch_table}
 use Rattle.tables.specs.declared.call.Call.{Call}
 use Rattle.tables.specs.declared.call.Call.TheVariants.{Rule, State, Arc, Start}
+use Rattle.tables.proofs.InStep.{Holds, InStep}
 use Rattle.tables.proofs.Places.{place_inside, place_before, same_state, same_letter, get_or_set_default, length_cleared, cleared_before, cleared_inside}
 
 -- a new book is in step with the blank sketch
 pub opened_in_step : {W : Type 0} (ts : List ℕ) (ws : List W) (ms : List ℕ)
-    → InStep (record { targets = length ts; weights = length ws; marks = length ms }) blank (opened ts ws ms)
+    → InStep (lengths_of ts ws ms) blank (opened ts ws ms)
 opened_in_step ts ws ms =
     record {
       letters = refl;
@@ -286,11 +286,6 @@ step n s c k h =
 pub same_verdict : {W : Type 0} (n : Lengths) (s : Sketch W) (c : Contents W) (k : Call W) → InStep n s c
     → verdict (size_of c) k ≡ verdict (sketch_size n s) k
 same_verdict n s c k h = ap (λ z. verdict z k) (same_size n s c h)
-
--- what a list of calls leaves, one after another
-abbrev pub left_by_all : {W : Type 0} → Contents W → List (Call W) → Contents W
-left_by_all c [] = c
-left_by_all c (k ∷ ks) = left_by_all (left_by c k) ks
 
 -- a list of calls keeps the book in step
 pub all_steps : {W : Type 0} (n : Lengths) (s : Sketch W) (c : Contents W) (ks : List (Call W)) → InStep n s c

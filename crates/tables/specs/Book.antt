@@ -1,5 +1,5 @@
 -- What an open book holds, and what each call makes of it. Assumes nothing.
-use Rattle.std.specs.Prelude.{ℕ, zero, suc, ◌+◌, ◌*◌, Bool, cond, List, length, Result, slice_set}
+use Rattle.std.specs.Prelude.{ℕ, zero, suc, ◌+◌, ◌*◌, Bool, cond, List, [], ◌∷◌, length, Result, slice_set}
 use Rattle.weights.specs.Refusal.{Told, judged}
 use Rattle.tables.specs.Call.{Size, verdict, if_taken}
 use Rattle.tables.specs.declared.call.Call.{Call}
@@ -18,6 +18,7 @@ pub record Contents (W : Type 0) : Type 0 where
 abbrev pub laid : {W : Type 0} → List ℕ → List W → List ℕ → ℕ → ℕ → Contents W
 laid ts ws ms s n = record { targets = ts; weights = ws; marks = ms; letters = s; count = n }
 
+-- what refusals go by
 abbrev pub size_of : {W : Type 0} → Contents W → Size
 size_of c =
     record {
@@ -84,3 +85,12 @@ taken c (Start q w) =
 -- what a call leaves, taken or refused
 abbrev pub left_by : {W : Type 0} → Contents W → Call W → Contents W
 left_by c k = if_taken (verdict (size_of c) k) (taken c k) c
+
+-- what a list of calls leaves, made one after another, and the answers that they get
+abbrev pub left_by_all : {W : Type 0} → Contents W → List (Call W) → Contents W
+left_by_all c [] = c
+left_by_all c (k ∷ ks) = left_by_all (left_by c k) ks
+
+abbrev pub answers_by : {W : Type 0} → Contents W → List (Call W) → List (Result (Unit {0}) Told)
+answers_by c [] = []
+answers_by c (k ∷ ks) = answer_to c k ∷ answers_by (left_by c k) ks

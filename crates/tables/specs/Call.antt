@@ -41,7 +41,7 @@ verdict z (State f) = unless (has_room z) 5 None
 verdict z (Arc q a r w) = unless (has_state z q) 2 (unless (has_letter z a) 3 (unless (has_state z r) 2 None))
 verdict z (Start q w) = unless (has_state z q) 2 None
 
--- what a call leaves: the one where it is taken, the other where it is refused
+-- one of two: the first where a call is taken, the second where it is refused
 abbrev pub if_taken : {X : Type 0} → Option Told → X → X → X
 if_taken None new old = new
 if_taken (Some t) new old = old

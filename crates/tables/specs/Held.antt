@@ -8,6 +8,7 @@ use Rattle.tables.specs.declared.call.Call.{Call}
 use Rattle.tables.specs.declared.book.Book.{Book}
 use Rattle.tables.specs.declared.sheet.Sheet.{Sheet}
 
+-- what a sheet holds
 abbrev pub held : {W : Type 0} → Sheet W → Contents W
 held s =
     record {
@@ -18,6 +19,7 @@ held s =
       count = s.count;
     }
 
+-- what a book holds
 abbrev pub written : {W : Type 0} → Book W → Contents W
 written b =
     record {
@@ -28,7 +30,7 @@ written b =
       count = b.count;
     }
 
--- a book lies over these memories
+-- a book lies over these memories: its slices are the loans of them, whatever they hold
 pub record Lent {W : Type 0} (ts : MutBor (List ℕ)) (ws : MutBor (List W)) (ms : MutBor (List ℕ)) (b : Book W) : Type 0 where
   pub targets : b.targets.ghost_name ≡ ts.ghost_name
   pub weights : b.weights.ghost_name ≡ ws.ghost_name

@@ -4,4 +4,5 @@ pub mod Book
 pub mod Sheet
 pub mod Held
 pub mod Sketch
-pub mod InStep
+pub mod Made
+pub mod Sizes

@@ -19,11 +19,12 @@ sheet_verdict z =
 abbrev pub sheet_of : {W : Type 0} → Contents W → Result (Contents W) Told
 sheet_of c = judged (sheet_verdict (size_of c)) c
 
--- the states that are drawn, at most 4095; the number is also that of the off state
+-- The states that are drawn, at most 4095; the number is also that of the off state, which comes after them. No sheet has another
+-- count of states or of letters: its making refuses such, and no book comes to one. Read so, any contents mean a lawful table.
 abbrev pub drawn : {W : Type 0} → Contents W → ℕ
 drawn c = min c.count 4095
 
--- the letters, 1 to 64
+-- the letters, 1 to 64, read so for the same reason
 abbrev pub width : {W : Type 0} → Contents W → ℕ
 width c = letters_read c.letters
 
@@ -64,12 +65,14 @@ sheet_table K c =
       weight = λ q a. cond (is_drawn c q a) (led_by K c (place (width c) q a)) K.group.one;
     }
 
+-- a place leads to a state of the table
 led_inside : {W : Type 0} (c : Contents W) (k : ℕ) → led_to c k < drawn c + 1
 led_inside c k =
     cond_both (leads c k) (entry_at c k) (drawn c) (λ t. t < drawn c + 1)
     (λ e. let h : entry_at c k < drawn c = ltb-true (entry_at c k) (drawn c) e in omega arith)
     (λ _. omega arith)
 
+-- the table is lawful, whatever the contents are
 pub sheet_lawful : {W : Type 0} (K : Kind W) (c : Contents W) → Lawful (sheet_table K c)
 sheet_lawful K c =
     record {

@@ -1,6 +1,6 @@
 -- What a list of calls on a new book comes to, told by the lengths of the memories and the calls' arguments alone.
 -- Assumes nothing.
-use Rattle.std.specs.Prelude.{◌≡◌, ℕ, ◌+◌, Bool, false, cond, ◌&&◌, List, [], ◌∷◌, ◌++◌, length, Some, None, Option, Result, ◌==◌, slice_index_or}
+use Rattle.std.specs.Prelude.{ℕ, ◌+◌, Bool, false, cond, ◌&&◌, List, [], ◌∷◌, ◌++◌, length, Some, None, Option, Result, ◌==◌, slice_index_or}
 use Rattle.weights.specs.Group.{Kind}
 use Rattle.weights.specs.Refusal.{Told, judged}
 use Rattle.tables.specs.Table.{Table}
@@ -13,6 +13,9 @@ pub record Lengths : Type 0 where
   pub targets : ℕ
   pub weights : ℕ
   pub marks : ℕ
+
+abbrev pub lengths_of : {W : Type 0} → List ℕ → List W → List ℕ → Lengths
+lengths_of ts ws ms = record { targets = length ts; weights = length ws; marks = length ms }
 
 -- where an arc or the start leads, and with which weight
 pub record Link (W : Type 0) : Type 0 where
@@ -30,7 +33,7 @@ pub record Sketch (W : Type 0) : Type 0 where
 abbrev pub blank : {W : Type 0} → Sketch W
 blank = record { letters = 1; finals = []; arc = λ q a. None; start = None }
 
--- what refusals go by
+-- what refusals go by, for memories of lengths n
 abbrev pub sketch_size : {W : Type 0} → Lengths → Sketch W → Size
 sketch_size n s =
     record {
@@ -93,15 +96,3 @@ sketch_table K s =
       target = λ q a. link_to (length s.finals) (s.arc q a);
       weight = λ q a. link_by K (s.arc q a);
     }
-
--- values written into a memory from its front on, as far as they fit
-abbrev pub written_into : {X : Type 0} → List X → List X → List X
-written_into ys [] = ys
-written_into [] (x ∷ xs) = []
-written_into (y ∷ ys) (x ∷ xs) = x ∷ written_into ys xs
-
--- what a list of calls on a new book over memories of those lengths comes to: the answers, as far as there is room for them, and
--- the table of the closed book
-pub record Drawn {W : Type 0} (K : Kind W) (n : Lengths) (ks : List (Call W)) (before after : List (Result (Unit {0}) Told)) (t : Table K.group.Mean) : Type 0 where
-  pub answers : after ≡ written_into before (answers_of n blank ks)
-  pub table : t ≡ sketch_table K (sketch_of n blank ks)

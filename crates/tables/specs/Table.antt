@@ -22,7 +22,7 @@ is_letter_count s = nat_lt 0 s && nat_le s 64
 abbrev pub letters_read : ℕ → ℕ
 letters_read s = max 1 (min s 64)
 
--- the sizes that a table may have; start and arcs stay within it
+-- the sizes are such as a table may have, and the start and the arcs lead to its states
 pub record Lawful {M : Type 0} (t : Table M) : Type 0 where
   pub some_state : 1 ≤ t.states
   pub few_states : t.states ≤ 4096

@@ -5,13 +5,14 @@ ghost use Rattle.tables.specs.Held.{held, written, Lent, Makes};
 ghost use Rattle.tables.specs.declared.call.Call.TheVariants.{Rule, State, Arc, Start};
 
 use crate::call::Call;
-use crate::memory::{UNSET, arc_place, clear, has_places, put};
+use crate::memory::{UNSET, arc_place, clear, has_room, put};
 use crate::sheet::Sheet;
 use crate::words::is_letter_count;
 use weights::{Refusal, Weight};
 
-// A table that is being drawn into three memories. That they come one by one, and that there is no invariant, is a rule of the
-// project, and so for a sheet; a `Model` would hide over which memories the book lies.
+// A table that is being drawn into three memories, which the book is lent one by one. It has no invariant: what holds of a book is told
+// in proofs, beside a sketch of it (`InStep`), which says more than an invariant of the book alone could. A `Model` would hide over
+// which memories the book lies.
 #[derive(Drop)]
 pub struct Book<'a, W> {
     targets: &'a mut [u16],
@@ -37,7 +38,7 @@ impl<'a, W: Weight> Book<'a, W> {
         }
     }
 
-    // Sets the letters, while there are no states; 1 to 64, else refused by 1.
+    // Sets the letters, 1 to 64, while there are no states; else refused by 1.
     pub fn rule(&mut self, letters: u8) -> Result<(), Refusal>
         ensures { Makes self.old self.new (Rule letters) result }
     {
@@ -68,14 +69,13 @@ impl<'a, W: Weight> Book<'a, W> {
     fn has_room(&self) -> bool
         ensures { result ≡ has_room (size_of (written self.now)) }
     {
-        self.count < 4095
-            && has_places(
-                self.targets,
-                self.weights,
-                self.marks,
-                self.letters,
-                self.count + 1,
-            )
+        has_room(
+            self.targets.len(),
+            self.weights.len(),
+            self.marks.len(),
+            self.letters,
+            self.count,
+        )
     }
 
     // Sets one arc. Refused: a state that is not in the book by 2, a letter by 3, then a target that is not in the book by 2.

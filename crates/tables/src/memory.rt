@@ -1,6 +1,6 @@
 ghost use Rattle.std.specs.Prelude.{◌≡◌, ◌+◌, ◌≤◌, length, slice_index_or, slice_set};
 ghost use Rattle.tables.specs.Book.{cleared, laid, place, size_of};
-ghost use Rattle.tables.specs.Call.{has_places};
+ghost use Rattle.tables.specs.Call.{has_places, has_room};
 ghost use Rattle.tables.specs.Sheet.{mean_at};
 
 use weights::Weight;
@@ -38,7 +38,34 @@ pub(crate) fn element_in<W: Weight>(elements: &[W], at: usize) -> W
     get_or(elements, at, &W::one())
 }
 
-// Whether three memories have the places of so many states. They come apart, as `Book` and `Sheet` hold them.
+// Whether memories of those lengths have the places of so many states.
+pub(crate) fn are_long_enough(
+    targets: usize,
+    weights: usize,
+    marks: usize,
+    letters: u8,
+    states: u16,
+) -> bool
+    ensures { result ≡ has_places (record { targets = targets; weights = weights; marks = marks; letters = letters; count = states }) }
+{
+    let places = arc_place(letters, states, 0);
+    targets >= places && weights >= places && marks >= usize::from(states)
+}
+
+// Whether a book of so many states over memories of those lengths has room for one more.
+pub(crate) fn has_room(
+    targets: usize,
+    weights: usize,
+    marks: usize,
+    letters: u8,
+    states: u16,
+) -> bool
+    ensures { result ≡ has_room (record { targets = targets; weights = weights; marks = marks; letters = letters; count = states }) }
+{
+    states < 4095 && are_long_enough(targets, weights, marks, letters, states + 1)
+}
+
+// Whether three memories have the places of so many states. They are given one by one, as `Sheet` holds them.
 pub(crate) fn has_places<W>(
     targets: &[u16],
     weights: &[W],
@@ -48,8 +75,7 @@ pub(crate) fn has_places<W>(
 ) -> bool
     ensures { result ≡ has_places (size_of (laid targets.now weights.now marks.now letters states)) }
 {
-    let places = arc_place(letters, states, 0);
-    targets.len() >= places && weights.len() >= places && marks.len() >= usize::from(states)
+    are_long_enough(targets.len(), weights.len(), marks.len(), letters, states)
 }
 
 // Makes that many places unset.

@@ -3,14 +3,15 @@ ghost use Rattle.weights.specs.Refusal.{outcome_as};
 ghost use Rattle.tables.specs.Book.{laid};
 ghost use Rattle.tables.specs.Held.{held};
 ghost use Rattle.tables.specs.Table.{has_arc};
-ghost use Rattle.tables.specs.Sheet.{sheet_of, drawn, width, led_to, led_by, sheet_table, sheet_lawful};
+ghost use Rattle.tables.specs.Sheet.{sheet_of, drawn, led_to, led_by, sheet_table, sheet_lawful};
 
 use crate::memory::{UNSET, arc_place, element_in, get_or, has_places};
 use crate::source::Source;
 use crate::words::{is_letter_count, letters_read};
 use weights::{Refusal, Weight};
 
-// A table that three memories hold in the layout of a book; three slices and two counts, as with a book a rule of the project. Each of its counts and lengths is checked where an arc is read.
+// A table that three memories hold in the layout of a book. It has no invariant: each count and length is checked where an arc is read,
+// so that a sheet means some lawful table whatever they are.
 #[derive(Drop)]
 pub struct Sheet<'a, W> {
     pub(crate) targets: &'a [u16],

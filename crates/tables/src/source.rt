@@ -9,7 +9,7 @@ pub trait Source<W: Weight> {
     // the table, by what the elements mean
     ghost table: { Self → (K : Kind W) → Table K.group.Mean };
 
-    // it has a table's sizes, and its start and arcs stay within it
+    // its sizes are such as a table may have, and its start and arcs lead to its states
     ghost lawful: { (x : Self) (K : Kind W) → Lawful (table x K) };
 
     fn states(&self) -> u16

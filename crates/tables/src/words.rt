@@ -19,7 +19,7 @@ pub fn letters_read(count: u8) -> u8
     count.clamp(1, 64)
 }
 
-// The index of the first byte that is no letter, of so many. A loop with an index is the form that a rule of the project sets here.
+// The index of the first byte that is none of so many letters.
 pub fn first_no_letter(word: &[u8], letters: u8) -> Option<usize>
     ensures { result ≡ no_letter_from letters 0 word.now }
 {
