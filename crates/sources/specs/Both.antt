@@ -80,7 +80,7 @@ product_lawful G t u l m e =
 pub both_lawful : (G : Group) (t u : Table G.Mean) → Lawful t → Lawful u → Lawful (both_table G t u)
 both_lawful G t u l m = chosen_lawful (joins t u) (product_table G t u) t (product_lawful G t u l m) l
 
--- two weights as one: none where either is none
+-- the product of two weights, or none where one of them is none
 abbrev pub multiplied : (G : Group) → Option G.Mean → Option G.Mean → Option G.Mean
 multiplied G (Some x) (Some y) = Some (G.mul x y)
 multiplied G (Some x) None = None

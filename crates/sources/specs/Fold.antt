@@ -35,6 +35,7 @@ fold_table t f =
       weight = λ q a. t.weight q (acts_as f.map t.letters a);
     }
 
+-- and that is one of them
 pub acts_inside : (m : LetterMap) (s a : ℕ) → 0 < s → acts_as m s a < s
 acts_inside m s a some =
     cond_both (nat_lt (letter_at m a) s) (letter_at m a) 0 (λ b. b < s) (λ e. ltb-true (letter_at m a) s e) (λ _. some)
@@ -60,7 +61,7 @@ pub record Folding (S : Type 0) : Type 0 where
 abbrev pub folding : {S : Type 0} → Fold S → Folding S
 folding f = record { source = f.source; letters = letters_of f.map (fold_letters f) }
 
--- a table weighs each word as another weighs its image, the word of the letters that its letters act as
+-- a table u weighs each word as t weighs its image, the word of the letters that those of the word act as
 pub record WeighsAsImage (G : Group) (xs : List ℕ) (t u : Table G.Mean) : Type 0 where
   pub letters : u.letters ≡ length xs
   pub words : (w : List ℕ) → Word (length xs) w → weight_of G u w ≡ weight_of G t (map (λ a. slice_index xs a) w)

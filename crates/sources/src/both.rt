@@ -58,7 +58,7 @@ impl<L, R> Both<L, R> {
     }
 }
 
-// The number of a pair of states, among the pairs of so many.
+// The number of a pair of states, where the two sources have so many.
 fn join(states: Sides, sizes: Sides) -> u16
     requires in_left { states.left < sizes.left }
     requires in_right { states.right < sizes.right }
@@ -68,7 +68,7 @@ fn join(states: Sides, sizes: Sides) -> u16
     states.left * sizes.right + states.right
 }
 
-// The pair of states of a number, if there is one.
+// The pair of states that has a number, if there is one.
 fn split(state: u16, sizes: Sides) -> Option<Sides>
     requires { sizes.left * sizes.right ≤ 4096 }
     ensures value { result ≡ within (nat_lt state (sizes.left * sizes.right)) (record { left = state / sizes.right; right = state % sizes.right }) }

@@ -8,7 +8,7 @@ use tables::{Source, first_no_letter, letters_read};
 use weights::{Refusal, Weight};
 
 // A source with letters of its own, each of which acts as one of the source's. What it holds is checked where a question is asked. The
-// count stands beside the map, which is a plain map of 64 places: a rule of the project.
+// count of its letters stands beside the map, which always has 64 places.
 #[derive(Drop)]
 pub struct Fold<S> {
     source: S,
