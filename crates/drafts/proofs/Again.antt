@@ -18,7 +18,8 @@ use Rattle.tables.specs.declared.call.Call.{Call}
 use Rattle.tables.specs.declared.call.Call.TheVariants.{Rule, State}
 use Rattle.tables.proofs.Steps.{opened_in_step, same_table}
 use Rattle.drafts.specs.Draft.{reading, made_on}
-use Rattle.drafts.specs.Written.{Named, NamedBelow, arc_count, state_call, arc_call, start_call, later_calls, draft_calls, read_again, ReadAgain}
+use Rattle.drafts.specs.Parts.{NamedBelow}
+use Rattle.drafts.specs.Written.{Named, arc_count, state_call, arc_call, start_call, later_calls, draft_calls, read_again, ReadAgain}
 use Rattle.drafts.proofs.Fields.{decoded, Known, placed, calls_listed}
 use Rattle.drafts.proofs.Drawing.{drawn_all, Unrefused, drawn_append, unrefused_append, read_in_step, read_unrefused, run, run_more, run_unrefused}
 

@@ -6,9 +6,9 @@ use Rattle.weights.specs.Codes.{Codes}
 use Rattle.weights.specs.Refusal.{Told}
 use Rattle.tables.specs.Book.{Contents, size_of, taken}
 use Rattle.tables.specs.Call.{verdict}
-use Rattle.tables.specs.InStep.{InStep}
 use Rattle.tables.specs.Sketch.{Lengths, Sketch, sketch_size, drawn_on}
 use Rattle.tables.specs.declared.call.Call.{Call}
+use Rattle.tables.proofs.InStep.{InStep}
 use Rattle.tables.proofs.Steps.{taken_in_step, same_verdict}
 use Rattle.drafts.specs.Draft.{Reading, carried, made_on}
 use Rattle.drafts.specs.Written.{field_of}

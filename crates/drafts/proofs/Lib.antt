@@ -3,5 +3,6 @@ mod Fits
 mod Listing
 mod Fields
 mod Drawing
+pub mod Sketching
 mod Again
 mod Writing

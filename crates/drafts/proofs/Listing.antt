@@ -6,7 +6,8 @@ use Rattle.weights.specs.Codes.{Codes}
 use Rattle.weights.specs.Refusal.{Told}
 use Rattle.tables.specs.Book.{Contents, size_of, taken}
 use Rattle.tables.specs.Call.{verdict}
-use Rattle.drafts.specs.Draft.{one_more, begun, listed, carried, reading, reading_from}
+use Rattle.drafts.specs.Advancing.{reading_from}
+use Rattle.drafts.specs.Draft.{one_more, begun, listed, carried, reading}
 use Rattle.drafts.specs.Fault.{faulted, unmade}
 use Rattle.drafts.specs.Field.{field_at}
 use Rattle.drafts.specs.declared.fault.Fault.{Fault}

@@ -11,7 +11,8 @@ use Rattle.weights.specs.Group.{Kind}
 use Rattle.tables.specs.Table.{Table}
 use Rattle.tables.specs.declared.call.Call.{Call}
 use Rattle.tables.specs.declared.call.Call.TheVariants.{Rule}
-use Rattle.drafts.specs.Written.{field_of, over, arc_count, draft_size, state_call, arc_call, start_call, states_bytes, arcs_bytes, draft_bytes}
+use Rattle.drafts.specs.Parts.{states_bytes, arcs_bytes}
+use Rattle.drafts.specs.Written.{field_of, over, arc_count, draft_size, state_call, arc_call, start_call, draft_bytes}
 
 -- fields of the same width, one after another
 module _ (kind width : ℕ) (f : ℕ → Call ℕ) (fixed : (i : ℕ) → length (field_of kind (f i)) ≡ width) where

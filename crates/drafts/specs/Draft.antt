@@ -1,13 +1,12 @@
 -- A draft file is the calls that it lists, up to a fault if it has one. Assumes nothing.
-use Rattle.std.specs.Prelude.{◌≡◌, ℕ, zero, suc, ◌-◌, ◌<◌, ◌≤◌, Bool, true, false, cond, List, [], ◌∷◌, length, drop, Some, None, Ok, Err, Option, Result, ◌==◌}
+use Rattle.std.specs.Prelude.{ℕ, zero, suc, ◌-◌, Bool, true, false, cond, List, [], ◌∷◌, Some, None, Ok, Err, Option, Result}
 use Rattle.weights.specs.Codes.{Codes}
 use Rattle.weights.specs.Refusal.{Told}
 use Rattle.tables.specs.Book.{Contents, size_of, taken}
 use Rattle.tables.specs.Call.{verdict}
 use Rattle.tables.specs.declared.call.Call.{Call}
-use Rattle.drafts.specs.Fault.{Blame, blame, malformed, unmade}
+use Rattle.drafts.specs.Fault.{Blame, malformed, unmade}
 use Rattle.drafts.specs.Field.{field_at}
-use Rattle.drafts.specs.declared.fault.Fault.{Fault}
 use Rattle.drafts.specs.declared.field.Field.{Field}
 
 -- a call, with the offset of the field that lists it
@@ -20,6 +19,7 @@ pub record Listing (W : Type 0) : Type 0 where
   pub calls : List (Placed W)
   pub fault : Option Blame
 
+-- a listing with one call more before it
 abbrev pub one_more : {W : Type 0} → Placed W → Listing W → Listing W
 one_more p l = record { calls = p ∷ l.calls; fault = l.fault }
 
@@ -56,12 +56,3 @@ made_on c (p ∷ ps) f = carried (verdict (size_of c) p.call) p.offset c (made_o
 -- the reading of a listing on a book
 abbrev pub reading : {W : Type 0} → Contents W → Listing W → Reading W
 reading c l = made_on c l.calls l.fault
-
--- the reading of a file from offset o on, where a field begins
-abbrev pub reading_from : {W : Type 0} → Codes W → List ℕ → ℕ → Contents W → Reading W
-reading_from k bs o c = reading c (listed k (o == 0) 0 o (drop o bs))
-
--- one field is read: the next begins later and goes on with the same reading, or the fault ends it
-abbrev pub Advanced : {W : Type 0} → Codes W → List ℕ → ℕ → Contents W → Contents W → Result ℕ Fault → Type 0
-Advanced k bs o c d (Ok next) = (o < next) × (next ≤ length bs) × (reading_from k bs o c ≡ reading_from k bs next d)
-Advanced k bs o c d (Err f) = reading_from k bs o c ≡ record { after = d; fault = Some (blame f) }

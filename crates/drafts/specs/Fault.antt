@@ -18,6 +18,7 @@ fault_text f =
     codes "layer "
     ++ (layer_name f.layer ++ (codes ", number " ++ (decimal (told f.refusal).number ++ (codes ", offset " ++ decimal f.offset))))
 
+-- what a fault tells: its layer, what its refusal tells, and its offset
 pub record Blame : Type 0 where
   pub layer : Layer
   pub told : Told

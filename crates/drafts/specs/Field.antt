@@ -7,11 +7,11 @@ use Rattle.tables.specs.declared.call.Call.TheVariants.{Rule, State, Arc, Start}
 use Rattle.drafts.specs.Fault.{Blame, malformed, uncoded}
 use Rattle.drafts.specs.declared.field.Field.{Field}
 
--- a number of two bytes
+-- the number of two bytes, the high one first
 abbrev pub two : ℕ → ℕ → ℕ
 two high low = high * 256 + low
 
--- a field that is good where the test holds, of that call and of that many bytes in all
+-- a field of that call and of that many bytes in all where the test holds, and else one that is malformed at offset o
 abbrev pub good : {W : Type 0} → ℕ → Bool → Call W → ℕ → Result (Field W) Blame
 good o b k n = cond b (Ok (record { call = k; length = n })) (Err (malformed o))
 

@@ -2,4 +2,8 @@ pub mod Fault
 pub mod Tag
 pub mod Field
 pub mod Draft
+pub mod Advancing
 pub mod Written
+pub mod Parts
+pub mod Sketched
+pub mod FileKind

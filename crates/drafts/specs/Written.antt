@@ -1,5 +1,5 @@
 -- The draft file of a table: a field for each call that draws it. Assumes nothing.
-use Rattle.std.specs.Prelude.{◌≡◌, ℕ, ◌+◌, ◌*◌, ◌/◌, ◌%◌, ◌<◌, ◌≤◌, List, [], ◌∷◌, ◌++◌, map, length, drop, IfOk, Some, None, Option, Result, nat_le, nat_lt}
+use Rattle.std.specs.Prelude.{◌≡◌, ℕ, ◌+◌, ◌*◌, ◌/◌, ◌%◌, ◌≤◌, List, [], ◌∷◌, ◌++◌, map, length, drop, IfOk, Some, None, Option, Result, nat_le, nat_lt}
 use Rattle.std.specs.List.{range_with_len, flat_map}
 use Rattle.weights.specs.Codes.{Codes, code_for}
 use Rattle.weights.specs.Group.{Kind}
@@ -67,23 +67,9 @@ module _ {W : Type 0} (K : Kind W) (k : Codes W) (t : Table K.group.Mean) where
   abbrev pub draft_calls : List (Call ℕ)
   draft_calls = Rule t.letters ∷ later_calls
 
-  -- the fields of the states and of the arcs below m
-  abbrev pub states_bytes : ℕ → List ℕ
-  states_bytes m = flat_map (field_of k.number) (map state_call (range_with_len 0 m))
-
-  abbrev pub arcs_bytes : ℕ → List ℕ
-  arcs_bytes m = flat_map (field_of k.number) (map arc_call (range_with_len 0 m))
-
   -- the draft file of the table
   abbrev pub draft_bytes : List ℕ
   draft_bytes = flat_map (field_of k.number) draft_calls
-
-  -- the code of the weight of arc p, and of each arc below m, makes an element of that weight
-  abbrev pub NamedArc : ℕ → Type 0
-  NamedArc p = Named K k (t.weight (p / t.letters) (p % t.letters))
-
-  abbrev pub NamedBelow : ℕ → Type 0
-  NamedBelow m = (p : ℕ) → p < m → NamedArc p
 
   -- what reading the draft file into a new book over three memories leaves
   abbrev pub read_again : List ℕ → List W → List ℕ → Reading W

@@ -1,6 +1,7 @@
 ghost use Rattle.std.specs.Prelude.{◌≡◌, ◌<◌, length};
 ghost use Rattle.tables.specs.Held.{written, SameMemory};
-ghost use Rattle.drafts.specs.Draft.{Advanced, listing, reading};
+ghost use Rattle.drafts.specs.Advancing.{Advanced};
+ghost use Rattle.drafts.specs.Draft.{listing, reading};
 ghost use Rattle.drafts.specs.Fault.{faulted, ended};
 
 use crate::fault::{Fault, Layer};

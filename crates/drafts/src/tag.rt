@@ -10,8 +10,8 @@ pub(crate) enum Tag {
     Start = 4,
 }
 
-// How long a field of each tag is, with the tag and the two bytes of its length. The reader and the writer have the length of the
-// content as a number, beside the bytes that it counts.
+// How long a field of each tag is, with the tag and the two bytes of its length. The reader and the writer write the length of
+// the content as a number, beside the bytes that it counts.
 pub(crate) const HEAD_LENGTH: usize = 5;
 
 pub(crate) const STATE_LENGTH: usize = 4;

@@ -2,15 +2,15 @@ ghost use Rattle.std.specs.Prelude.{◌≡◌, ◌*◌, ◌/◌, ◌%◌, ◌<�
 ghost use Rattle.weights.specs.Codes.{code_for};
 ghost use Rattle.weights.specs.Refusal.{outcome, judged};
 ghost use Rattle.tables.specs.declared.call.Call.TheVariants.{Rule};
-ghost use Rattle.drafts.specs.Written.{field_of, Named, arc_count, draft_size, write_verdict};
-ghost use Rattle.drafts.specs.Written.{state_call, arc_call, start_call, states_bytes, arcs_bytes, NamedArc, NamedBelow, DraftWritten};
+ghost use Rattle.drafts.specs.Parts.{states_bytes, arcs_bytes, NamedArc, NamedBelow};
+ghost use Rattle.drafts.specs.Written.{field_of, Named, arc_count, draft_size, write_verdict, state_call, arc_call, start_call, DraftWritten};
 
 use crate::tag::{ARC_LENGTH, HEAD_LENGTH, START_LENGTH, STATE_LENGTH, Tag};
 use tables::Source;
 use weights::{Coded, Refusal};
 
 // The code of an element, which is the code of its meaning.
-fn code_of<W: Coded>(weight: W) -> u16
+pub fn code_of<W: Coded>(weight: W) -> u16
     ensures code { result ≡ code_for W.kind W.codes (W.kind.mean weight) }
     ensures named { Named W.kind W.codes (W.kind.mean weight) }
 {
@@ -78,8 +78,8 @@ fn start_field<W: Coded, S: Source<W>>(source: &S) -> [u8; START_LENGTH]
     [Tag::Start as u8, 0, 4, q1, q0, c1, c0]
 }
 
-// Fills a memory with the states. Not one function with `write_arcs`: over a closure the promise would be about its `post` at each
-// index, which is no plainer.
+// Fills a memory with the states. It is not one function with `write_arcs`: that would take a field as a closure, and its promise, about
+// the closure's `post` at each index, would be no plainer.
 fn write_states<W: Coded, S: Source<W>>(source: &S, out: &mut [u8])
     requires { 4 * (S.table source.now W.kind).states ≡ length out.old }
     ensures { out.new ≡ states_bytes W.kind W.codes (S.table source.now W.kind) (S.table source.now W.kind).states }

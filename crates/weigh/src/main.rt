@@ -1,11 +1,9 @@
 #![tactic(auto)]
 
 // Reads a draft file from standard input and weighs the words that its arguments name, letters set apart by spaces.
-mod kind;
 mod words;
 
-use drafts::read_draft;
-use kind::FileKind;
+use drafts::{FileKind, read_draft};
 use std::env;
 use std::io::Read;
 use tables::{Book, Sheet, Source, weigh};

@@ -4,7 +4,7 @@ use Rattle.weights.specs.Refusal.{judged, told}
 use Rattle.tables.specs.Book.{taken, size_of}
 use Rattle.tables.specs.Call.{verdict, if_taken}
 use Rattle.tables.specs.Held.{written}
-use Rattle.drafts.specs.Draft.{reading_from}
+use Rattle.drafts.specs.Advancing.{reading_from}
 use Rattle.drafts.specs.Fault.{unmade}
 use Rattle.drafts.specs.declared.fault.Layer.TheVariants.{Book}
 use Rattle.drafts.proofs.Faults.{faulted-map_err, made_call, unmade_call}

@@ -1,6 +1,6 @@
 use Rattle.std.proofs.Common.{◌≡◌, ◌-◌, ◌≤◌, length}
 use Rattle.tables.specs.Held.{written, SameMemory}
-use Rattle.drafts.specs.Draft.{reading_from}
+use Rattle.drafts.specs.Advancing.{reading_from}
 use Rattle.drafts.proofs.read.read_draft.Given as goal
 
 abbrev pub invariant-loop-offset : goal.invariant-loop-offset

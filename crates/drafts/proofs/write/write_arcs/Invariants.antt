@@ -1,5 +1,5 @@
 use Rattle.std.proofs.Common.{◌≡◌, ◌*◌, take}
-use Rattle.drafts.specs.Written.{arcs_bytes, NamedBelow}
+use Rattle.drafts.specs.Parts.{arcs_bytes, NamedBelow}
 use Rattle.drafts.proofs.write.write_arcs.Given as goal
 
 abbrev pub invariant-loop-arc : goal.invariant-loop-arc

@@ -1,5 +1,5 @@
 use Rattle.std.proofs.Common.{◌≡◌, ◌*◌, take}
-use Rattle.drafts.specs.Written.{states_bytes}
+use Rattle.drafts.specs.Parts.{states_bytes}
 use Rattle.drafts.proofs.write.write_states.Given as goal
 
 abbrev pub invariant-loop-state : goal.invariant-loop-state

@@ -1,12 +1,12 @@
 ghost use Rattle.std.specs.Prelude.{◌≡◌, Some, slice_get};
-ghost use Rattle.weigh.specs.FileKind.{kind_of, kind_name};
+ghost use Rattle.drafts.specs.FileKind.{kind_of, kind_name};
 
 use std::fmt;
 use weights::{Check, Coded, Wheel};
 
 // The kind of weights that a draft file has.
 #[derive(Clone, Copy, PartialEq, Eq, Debug)]
-pub(crate) enum FileKind {
+pub enum FileKind {
     Plain,
     Check,
     Wheel,
@@ -14,7 +14,7 @@ pub(crate) enum FileKind {
 
 impl FileKind {
     // The kind of a file, by its byte at offset 3; plain where that is missing or unknown.
-    pub(crate) fn of(bytes: &[u8]) -> FileKind
+    pub fn of(bytes: &[u8]) -> FileKind
         ensures { result ≡ kind_of (slice_get bytes.now 3) }
     {
         match bytes.get(3) {
