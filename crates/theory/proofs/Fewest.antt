@@ -7,7 +7,7 @@ use Rattle.theory.specs.Runs.{led, Closed}
 use Rattle.theory.specs.Series.{Multiple, AlmostEquivalent, AlmostWeighAlike, WeighAlikeFrom}
 use Rattle.theory.specs.Least.{Least}
 use Rattle.theory.specs.Kernel.{Kernel, Preamble}
-use Rattle.theory.specs.Hyper.{Hyper, kept_below}
+use Rattle.theory.specs.Hyper.{Hyper, count_below}
 use Rattle.theory.specs.Theorems.{HyperIsSmallest}
 use Rattle.theory.proofs.Basics.{led_inside, one_state, almost_sym}
 use Rattle.theory.proofs.Pigeonhole.{two_alike}
@@ -48,7 +48,7 @@ module _ (G : Group) (t l h b : Table G.Mean) (r : ℕ → ℕ) (f : ℕ → G.M
   rival_alike = least_alike_from G t l lawful least alike.from b alike.alike
 
   -- a word for each kept state
-  choose : (i : ℕ) → i < kept_below hyper.kept l.states → ChosenWord hyper.kept l alike.from i
+  choose : (i : ℕ) → i < count_below hyper.kept l.states → ChosenWord hyper.kept l alike.from i
   choose i m =
       let s : Numbered hyper.kept l.states i = numbered hyper.kept l.states i m in
       elim (kernel_or_preamble l (least_closed G t l lawful least) s.state s.inside) [
@@ -95,19 +95,19 @@ module _ (G : Group) (t l h b : Table G.Mean) (r : ℕ → ℕ) (f : ℕ → G.M
       ]
 
   -- the rival has a state for each kept state
-  no_fewer : kept_below hyper.kept l.states ≤ b.states
+  no_fewer : count_below hyper.kept l.states ≤ b.states
   no_fewer =
-      elim (cases_lt b.states (kept_below hyper.kept l.states)) [
+      elim (cases_lt b.states (count_below hyper.kept l.states)) [
         | inr enough ↦ enough
         | inl fewer ↦
-            (let s = two_alike (kept_below hyper.kept l.states) b.states (λ i m. led b b.start (choose i m).word) fewer
+            (let s = two_alike (count_below hyper.kept l.states) b.states (λ i m. led b b.start (choose i m).word) fewer
             (λ i m.
             led_inside b closed b.start (choose i m).word closed.start_inside
             (subst (λ c. Word c (choose i m).word) rival_alike.letters (choose i m).is_word)) in
             let x = choose s.0 s.2 in
             let y = choose s.1 s.3 in
-            let same : kept_below hyper.kept x.numbered.state ≡ kept_below hyper.kept y.numbered.state =
-            ap (kept_below hyper.kept) (rival_tells s.0 s.1 x y s.5) in
+            let same : count_below hyper.kept x.numbered.state ≡ count_below hyper.kept y.numbered.state =
+            ap (count_below hyper.kept) (rival_tells s.0 s.1 x y s.5) in
             absurd (omega (arith, x.numbered.number, y.numbered.number, same, s.4)))
       ]
 

@@ -11,7 +11,7 @@ use Rattle.tables.proofs.Reading.{scaled_twice}
 use Rattle.theory.specs.Runs.{led, Closed, Reachable}
 use Rattle.theory.specs.Series.{AlmostBy, AlmostEquivalent}
 use Rattle.theory.specs.Kernel.{Kernel, Preamble}
-use Rattle.theory.specs.Hyper.{Hyper, Representative, SmallestPreamble, kept_below}
+use Rattle.theory.specs.Hyper.{Hyper, Representative, SmallestPreamble, count_below}
 use Rattle.theory.proofs.Basics.{scaled_one, word_append, word_left, word_right, word_drop, led_append, led_inside, walked, weight_append, almost_by_itself, almost_refl, almost_sym, almost_trans, almost_next}
 use Rattle.theory.proofs.Search.{times, times_word, times_long, times_led, pumped, loops, kernel_or_preamble, kernel_not_preamble}
 
@@ -188,12 +188,12 @@ module _ (G : Group) (l h : Table G.Mean) (r : ℕ → ℕ) (f : ℕ → G.Mean)
   -- from a kept state, the hyper table weighs words as the redirected table
   hyper_weighs :
       (q : ℕ) (w : List ℕ) → q < l.states → hyper.kept q ≡ true → Word l.letters w →
-      weight_from G h (kept_below hyper.kept q) w ≡ weight_from G redirected q w
+      weight_from G h (count_below hyper.kept q) w ≡ weight_from G redirected q w
   hyper_weighs q [] i k o = ap (λ b. within b G.one) (hyper.final q i k)
   hyper_weighs q (a ∷ w) i k o =
       let p : ℕ = l.target q a in
       let inside : p < l.states = closed.target_inside q a i o.0 in
-      ap (λ x. scaled G x (weight_from G h (h.target (kept_below hyper.kept q) a) w))
+      ap (λ x. scaled G x (weight_from G h (h.target (count_below hyper.kept q) a) w))
       (hyper.weight q a i o.0 k ∙ shifted (hyper.kept p) (l.weight q a) (f p))
       ∙ ap (λ x. scaled G (G.mul (l.weight q a) (shift p)) (weight_from G h x w)) (hyper.target q a i o.0 k)
       ∙ ap (scaled G (G.mul (l.weight q a) (shift p))) (hyper_weighs (moved p) w (moved_inside p inside) (moved_kept p inside) o.1)

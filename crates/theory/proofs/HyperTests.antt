@@ -9,7 +9,7 @@ use Rattle.tables.proofs.Reading.{scaled_twice}
 use Rattle.theory.specs.Runs.{led, Closed}
 use Rattle.theory.specs.Series.{AlmostBy, AlmostEquivalent}
 use Rattle.theory.specs.Kernel.{Kernel, Preamble, CoKernel}
-use Rattle.theory.specs.Hyper.{Hyper, Representative, kept_below}
+use Rattle.theory.specs.Hyper.{Hyper, Representative, count_below}
 use Rattle.theory.proofs.Basics.{scaled_told, word_append, led_inside, walked, accepted_weighs, weight_append, almost_by_itself}
 use Rattle.theory.proofs.Search.{pumped, kernel_not_preamble, co_kernel_not_preamble}
 use Rattle.theory.proofs.Tests.{all_below, all_both, at_each, at_both, given, either, is_word, word_there, is_closed, closed_there, Coded, same, same_there, same_true, ratio, ratio_told}
@@ -125,7 +125,7 @@ abbrev pub is_kept : (ℕ → Bool) → (ℕ → ℕ) → ℕ → Bool
 is_kept kernel r q = kernel q || eqb (r q) q
 
 abbrev pub is_number : (ℕ → Bool) → (ℕ → ℕ) → ℕ → ℕ
-is_number kept r q = kept_below kept (cond (kept q) q (r q))
+is_number kept r q = count_below kept (cond (kept q) q (r q))
 
 abbrev pub is_weight : (G : Group) → (ℕ → Bool) → (ℕ → G.Mean) → ℕ → G.Mean → G.Mean
 is_weight G kept f q w = cond (kept q) w (G.mul w (f q))
@@ -150,21 +150,21 @@ pub record HyperTests (G : Group) (c : Coded G) (t h : Table G.Mean) (r : ℕ �
       (eqb (r q) q && same G c (f q) G.one)
       || all_below (λ a. eqb (t.target q a) (t.target (r q) a) && same G c (t.weight q a) (G.mul (f q) (t.weight (r q) a))) t.letters)
       t.states ≡ true
-  pub states : h.states ≡ kept_below (is_kept w.kernel r) t.states
+  pub states : h.states ≡ count_below (is_kept w.kernel r) t.states
   pub letters : h.letters ≡ t.letters
   pub final :
-      all_below (λ q. not (is_kept w.kernel r q) || beq (h.final (kept_below (is_kept w.kernel r) q)) (t.final q)) t.states ≡ true
+      all_below (λ q. not (is_kept w.kernel r q) || beq (h.final (count_below (is_kept w.kernel r) q)) (t.final q)) t.states ≡ true
   pub target :
       all_both
       (λ q a.
       not (is_kept w.kernel r q)
-      || eqb (h.target (kept_below (is_kept w.kernel r) q) a) (is_number (is_kept w.kernel r) r (t.target q a)))
+      || eqb (h.target (count_below (is_kept w.kernel r) q) a) (is_number (is_kept w.kernel r) r (t.target q a)))
       t.states t.letters ≡ true
   pub weight :
       all_both
       (λ q a.
       not (is_kept w.kernel r q)
-      || same G c (h.weight (kept_below (is_kept w.kernel r) q) a) (is_weight G (is_kept w.kernel r) f (t.target q a) (t.weight q a)))
+      || same G c (h.weight (count_below (is_kept w.kernel r) q) a) (is_weight G (is_kept w.kernel r) f (t.target q a) (t.weight q a)))
       t.states t.letters ≡ true
   pub start : h.start ≡ is_number (is_kept w.kernel r) r t.start
   pub start_weight : same G c h.start_weight (is_weight G (is_kept w.kernel r) f t.start t.start_weight) ≡ true
@@ -292,7 +292,7 @@ module _ (G : Group) (c : Coded G) (t h : Table G.Mean) (r : ℕ → ℕ) (f : �
             ];
         states = x.states;
         letters = x.letters;
-        final = λ q l k. equal (h.final (kept_below kept q)) (t.final q) (given _ _ (at_each _ _ x.final q l) k);
+        final = λ q l k. equal (h.final (count_below kept q)) (t.final q) (given _ _ (at_each _ _ x.final q l) k);
         target = λ q a l m k. eqb-true _ _ (given _ _ (at_both _ _ _ x.target q a l m) k);
         weight = λ q a l m k. same_there G c _ _ (given _ _ (at_both _ _ _ x.weight q a l m) k);
         start = x.start;

@@ -6,7 +6,7 @@ use Rattle.tables.specs.Table.{Table, weight_from}
 use Rattle.theory.specs.Runs.{accepts, Closed}
 use Rattle.theory.specs.Series.{AlmostBy}
 use Rattle.theory.specs.Kernel.{CoKernel}
-use Rattle.theory.specs.Hyper.{Hyper, Representative, Factor, kept_below}
+use Rattle.theory.specs.Hyper.{Hyper, Representative, Factor, count_below}
 use Rattle.theory.specs.Theorems.{HyperIsDetermined}
 use Rattle.theory.proofs.Basics.{scaled_told, walked, accepted_weighs, multiple_accepts}
 use Rattle.theory.proofs.Search.{kernel_or_preamble, co_kernel_or_preamble, kernel_not_preamble}
@@ -56,7 +56,7 @@ one_factor G t closed q r k m l x y =
 
 module _ (G : Group) (l h : Table G.Mean) (r : ℕ → ℕ) (f : ℕ → G.Mean) (closed : Closed l) (x : Hyper G l h r f) where
   -- an arc is led to a kept state, whose number is a state of the hyper table
-  led_number : (q : ℕ) → q < l.states → kept_below x.kept (moved G l h r f closed x q) < h.states
+  led_number : (q : ℕ) → q < l.states → count_below x.kept (moved G l h r f closed x q) < h.states
   led_number q m =
       omega (
         arith,
@@ -78,7 +78,7 @@ module _ (G : Group) (l h : Table G.Mean) (r : ℕ → ℕ) (f : ℕ → G.Mean)
             λ i a m o.
             let q = origin i m in
             let letter : a < l.letters = subst (λ n. a < n) x.letters o in
-            let leads : h.target i a ≡ kept_below x.kept (moved G l h r f closed x (l.target q.state a)) =
+            let leads : h.target i a ≡ count_below x.kept (moved G l h r f closed x (l.target q.state a)) =
             ap (λ j. h.target j a) (sym q.number) ∙ x.target q.state a q.inside letter q.is_kept in
             subst (λ n. n < h.states) (sym leads)
             (led_number (l.target q.state a) (closed.target_inside q.state a q.inside letter));
@@ -109,18 +109,18 @@ module _ (G : Group) (l h k : Table G.Mean) (r s : ℕ → ℕ) (f g : ℕ → G
             ]
       ]
 
-  numbers_alike : (q : ℕ) → q ≤ l.states → kept_below x.kept q ≡ kept_below y.kept q
+  numbers_alike : (q : ℕ) → q ≤ l.states → count_below x.kept q ≡ count_below y.kept q
   numbers_alike q m = counts_alike x.kept y.kept q (λ p n. kept_alike p (omega arith))
 
   -- an arc to state q is led to one number, with one weight
   led_number_alike :
       (q : ℕ) → q < l.states →
-      kept_below x.kept (cond (x.kept q) q (r q)) ≡ kept_below y.kept (cond (y.kept q) q (s q))
+      count_below x.kept (cond (x.kept q) q (r q)) ≡ count_below y.kept (cond (y.kept q) q (s q))
   led_number_alike q m =
       let inside : cond (x.kept q) q (r q) < l.states = moved_inside G l h r f closed x q m in
       numbers_alike (cond (x.kept q) q (r q)) (omega arith)
-      ∙ ap (λ b. kept_below y.kept (cond b q (r q))) (kept_alike q m)
-      ∙ ap (λ p. kept_below y.kept (cond (y.kept q) q p)) (representatives_alike q m)
+      ∙ ap (λ b. count_below y.kept (cond b q (r q))) (kept_alike q m)
+      ∙ ap (λ p. count_below y.kept (cond (y.kept q) q p)) (representatives_alike q m)
 
   led_weight_alike :
       (q : ℕ) (w : G.Mean) → q < l.states → cond (x.kept q) w (G.mul w (f q)) ≡ cond (y.kept q) w (G.mul w (g q))
@@ -133,7 +133,7 @@ module _ (G : Group) (l h k : Table G.Mean) (r s : ℕ → ℕ) (f g : ℕ → G
       let origin_of : (i : ℕ) → i < h.states → Numbered x.kept l.states i = origin G l h r f closed x in
       let kept : (i : ℕ) (m : i < h.states) → y.kept (origin_of i m).state ≡ true =
       λ i m. let q = origin_of i m in sym (kept_alike q.state q.inside) ∙ q.is_kept in
-      let number : (i : ℕ) (m : i < h.states) → kept_below y.kept (origin_of i m).state ≡ i =
+      let number : (i : ℕ) (m : i < h.states) → count_below y.kept (origin_of i m).state ≡ i =
       λ i m. let q = origin_of i m in sym (numbers_alike q.state (omega (arith, q.inside))) ∙ q.number in
       record {
         states = x.states ∙ numbers_alike l.states (omega arith) ∙ sym y.states;

@@ -28,10 +28,10 @@ pub record Factor (G : Group) (t : Table G.Mean) (q r : ℕ) (k : G.Mean) : Type
   pub almost : AlmostBy G t k q r
   pub one : CoPreamble t q → k ≡ G.one
 
--- how many states below q are kept
-abbrev pub kept_below : (ℕ → Bool) → ℕ → ℕ
-kept_below kept zero = 0
-kept_below kept (suc q) = kept_below kept q + cond (kept q) 1 0
+-- How many numbers below n have a property. A kept state's number in the hyper table is how many states below it are kept.
+abbrev pub count_below : (ℕ → Bool) → ℕ → ℕ
+count_below has zero = 0
+count_below has (suc n) = count_below has n + cond (has n) 1 0
 
 -- h is the hyper table of t, with representatives r and factors f
 pub record Hyper (G : Group) (t h : Table G.Mean) (r : ℕ → ℕ) (f : ℕ → G.Mean) : Type 0 where
@@ -42,17 +42,17 @@ pub record Hyper (G : Group) (t h : Table G.Mean) (r : ℕ → ℕ) (f : ℕ →
   pub keeps_kernel : (q : ℕ) → q < t.states → Kernel t q → kept q ≡ true
   pub keeps_itself : (q : ℕ) → q < t.states → r q ≡ q → kept q ≡ true
   pub redirects : (q : ℕ) → q < t.states → Preamble t q → r q ≢ q → kept q ≡ false
-  pub states : h.states ≡ kept_below kept t.states
+  pub states : h.states ≡ count_below kept t.states
   pub letters : h.letters ≡ t.letters
   -- kept states keep their order and their finality
-  pub final : (q : ℕ) → q < t.states → kept q ≡ true → h.final (kept_below kept q) ≡ t.final q
+  pub final : (q : ℕ) → q < t.states → kept q ≡ true → h.final (count_below kept q) ≡ t.final q
   -- an arc into a kept state leads there with its weight; one into a redirected state leads to its representative, and its weight
   -- is multiplied by the factor on the right; the start likewise
   pub target :
       (q a : ℕ) → q < t.states → a < t.letters → kept q ≡ true →
-      h.target (kept_below kept q) a ≡ kept_below kept (cond (kept (t.target q a)) (t.target q a) (r (t.target q a)))
+      h.target (count_below kept q) a ≡ count_below kept (cond (kept (t.target q a)) (t.target q a) (r (t.target q a)))
   pub weight :
       (q a : ℕ) → q < t.states → a < t.letters → kept q ≡ true →
-      h.weight (kept_below kept q) a ≡ cond (kept (t.target q a)) (t.weight q a) (G.mul (t.weight q a) (f (t.target q a)))
-  pub start : h.start ≡ kept_below kept (cond (kept t.start) t.start (r t.start))
+      h.weight (count_below kept q) a ≡ cond (kept (t.target q a)) (t.weight q a) (G.mul (t.weight q a) (f (t.target q a)))
+  pub start : h.start ≡ count_below kept (cond (kept t.start) t.start (r t.start))
   pub start_weight : h.start_weight ≡ cond (kept t.start) t.start_weight (G.mul t.start_weight (f t.start))
