@@ -10,13 +10,14 @@ use Rattle.tables.proofs.Reading.{scaled_twice}
 use Rattle.theory.specs.Runs.{Closed, accepts}
 use Rattle.theory.specs.Series.{Multiple, Equivalent, AlmostBy, AlmostEquivalent}
 use Rattle.theory.specs.Kernel.{CoKernel, CoPreamble}
-use Rattle.theory.specs.Hyper.{kept_below}
+use Rattle.theory.specs.Hyper.{count_below}
 use Rattle.theory.proofs.Basics.{inv_cancels, cancels_inv, walked, weight_walked, multiple_sym, multiple_trans, multiple_later, multiple_after, multiple_accepts, almost_by_itself, almost_sym}
 use Rattle.theory.proofs.Search.{co_kernel_not_preamble}
 use Rattle.theory.proofs.Single.{one_almost}
 use Rattle.minimize.proofs.Keeping.{kept_fewer, kept_stands}
 use Rattle.minimize.proofs.Choosing.{told_true, told_false}
-use Rattle.minimize.specs.Steps.{Told, AlmostClasses, none, leads}
+use Rattle.minimize.specs.Compile.{Tells}
+use Rattle.minimize.specs.Steps.{AlmostClasses, none, leads}
 use Rattle.minimize.specs.Almost.{weighed, base, OneRow, Regrouped}
 
 -- choices by one mark
@@ -92,7 +93,7 @@ module _ (G : Group) (t : Table G.Mean) where
       (one_almost G t (t.target q a) r x (G.mul z y) c i (almost_by_trans z y (t.target q a) (t.target p a) r (almost_by_next k q p a l h) j))
 
 -- all are kept
-kept_all : (f : ℕ → Bool) (n : ℕ) → ((q : ℕ) → q < n → f q ≡ true) → kept_below f n ≡ n
+kept_all : (f : ℕ → Bool) (n : ℕ) → ((q : ℕ) → q < n → f q ≡ true) → count_below f n ≡ n
 kept_all f zero e = refl
 kept_all f (suc n) e =
     let last : cond {A = ℕ} (f n) 1 0 ≡ 1 = cond-true (f n) 1 0 (e n (omega arith)) in
@@ -110,7 +111,7 @@ module _ (G : Group) (t : Table G.Mean) (o : ℕ → Bool) (label : ℕ → ℕ)
         label (t.target q a) ≡ label (t.target p a)
 
 module _ (G : Group) (t : Table G.Mean) (o : ℕ → Bool) (closed : Closed t) (few : t.states ≤ 4096)
-    (told : (q : ℕ) → q < t.states → Told (o q) (CoKernel t q) (CoPreamble t q)) where
+    (told : (q : ℕ) → q < t.states → Tells (o q) (CoKernel t q) (CoPreamble t q)) where
   is_co_kernel : (q : ℕ) → q < t.states → o q ≡ true → CoKernel t q
   is_co_kernel q l e = told_true (o q) (CoKernel t q) (CoPreamble t q) e (told q l)
 
@@ -386,10 +387,10 @@ module _ (G : Group) (t : Table G.Mean) (o : ℕ → Bool) (closed : Closed t) (
         eq-eqb v q (omega arith)
 
     -- a round makes no new labels
-    pub regrouped_fewer : (known : ℕ) → known ≡ kept_below (leads label) t.states → m ≤ known
+    pub regrouped_fewer : (known : ℕ) → known ≡ count_below (leads label) t.states → m ≤ known
     regrouped_fewer known e = omega (arith, r.count, e, kept_fewer (leads label) (leads label') t.states led_before)
 
-    module _ (known : ℕ) (counted : known ≡ kept_below (leads label) t.states) (same : m ≡ known) where
+    module _ (known : ℕ) (counted : known ≡ count_below (leads label) t.states) (same : m ≡ known) where
       -- where there are as many labels as before, they are what they were
       stands : (q : ℕ) → q < t.states → label' q ≡ label q
       stands q l =
@@ -426,5 +427,5 @@ module _ (G : Group) (t : Table G.Mean) (o : ℕ → Bool) (closed : Closed t) (
             }
 
 -- so many labels there are to begin with
-pub begun_count : (label : ℕ → ℕ) (n : ℕ) → ((q : ℕ) → q < n → label q ≡ q) → n ≡ kept_below (leads label) n
+pub begun_count : (label : ℕ → ℕ) (n : ℕ) → ((q : ℕ) → q < n → label q ≡ q) → n ≡ count_below (leads label) n
 begun_count label n own = sym (kept_all (leads label) n (λ q l. eq-eqb (label q) q (own q l)))

@@ -12,17 +12,17 @@ use Rattle.theory.specs.Kernel.{Kernel, Preamble, CoKernel, CoPreamble}
 use Rattle.theory.specs.Hyper.{Representative, Factor}
 use Rattle.theory.proofs.Basics.{multiple_sym, multiple_trans, multiple_later, multiple_accepts, walked, weight_walked}
 use Rattle.theory.proofs.Search.{co_kernel_not_preamble}
-use Rattle.minimize.specs.Steps.{Told, Marked, AlmostClasses}
-use Rattle.minimize.specs.Steps.{has_mark}
+use Rattle.minimize.specs.Compile.{Tells}
+use Rattle.minimize.specs.Steps.{Marked, AlmostClasses, has_mark}
 use Rattle.minimize.specs.Choosing.{rank, Chosen, factor_towards}
 use Rattle.minimize.proofs.Memory.{mean_set_same, mean_set_other}
 
 -- what a mark tells
-pub told_true : (b : Bool) (X Y : Type 0) → b ≡ true → Told b X Y → X
-told_true b X Y e h = subst (λ v. Told v X Y) e h
+pub told_true : (b : Bool) (X Y : Type 0) → b ≡ true → Tells b X Y → X
+told_true b X Y e h = subst (λ v. Tells v X Y) e h
 
-pub told_false : (b : Bool) (X Y : Type 0) → b ≡ false → Told b X Y → Y
-told_false b X Y e h = subst (λ v. Told v X Y) e h
+pub told_false : (b : Bool) (X Y : Type 0) → b ≡ false → Tells b X Y → Y
+told_false b X Y e h = subst (λ v. Tells v X Y) e h
 
 module _ (G : Group) (t : Table G.Mean) (k o : ℕ → Bool) (label : ℕ → ℕ) (factor : ℕ → G.Mean) where
   -- states with one label are almost-equivalent

@@ -10,7 +10,7 @@ use Rattle.tables.proofs.Reading.{some_injective}
 use Rattle.theory.specs.Runs.{Closed, accepts}
 use Rattle.theory.specs.Series.{Equivalent}
 use Rattle.theory.specs.Push.{Smallest}
-use Rattle.theory.specs.Hyper.{kept_below}
+use Rattle.theory.specs.Hyper.{count_below}
 use Rattle.theory.proofs.Basics.{scaled_one, factor_told}
 use Rattle.theory.proofs.Search.{smallest_unique, live_not_dead}
 use Rattle.minimize.specs.Steps.{leads, LivePush, Normal, Classes}
@@ -136,7 +136,7 @@ module _ (G : Group) (t : Table G.Mean) (d : ℕ → ℕ) where
     pub near : (q p : ℕ) → q < t.states → p < t.states → label q ≡ label p → d q ≡ d p
     pub few : known ≤ t.states
     pub named : 1 ≤ known → (q : ℕ) → q < t.states → label q ≤ q
-    pub counted : 1 ≤ known → known ≡ kept_below (leads label) t.states
+    pub counted : 1 ≤ known → known ≡ count_below (leads label) t.states
 
   -- distances are labels to begin with
   pub distances_labelled : Normal G t d → (label : ℕ → ℕ) → ((q : ℕ) → q < t.states → label q ≡ d q) → Labelled label 0
@@ -213,7 +213,7 @@ module _ (G : Group) (t : Table G.Mean) (d : ℕ → ℕ) where
         let below : v ≤ q = r.first q l in
         let inside : v < t.states = omega arith in
         let own' : label' v ≡ v = sym (r.one_first q v l inside (r.same q l)) in
-        let less : kept_below (leads label') t.states ≤ kept_below (leads label) t.states =
+        let less : count_below (leads label') t.states ≤ count_below (leads label) t.states =
         omega (arith, h.counted some, r.count) in
         let own : label v ≡ v =
         eqb-true (label v) v
@@ -258,7 +258,7 @@ module _ (G : Group) (t : Table G.Mean) (d : ℕ → ℕ) where
           smallest = refined_sound h r;
         }
       where
-        one_kept : (f : ℕ → Bool) (n : ℕ) → 1 ≤ n → f 0 ≡ true → 1 ≤ kept_below f n
+        one_kept : (f : ℕ → Bool) (n : ℕ) → 1 ≤ n → f 0 ≡ true → 1 ≤ count_below f n
         one_kept f zero l e = absurd (omega arith)
         one_kept f (suc zero) l e = subst (λ b. 1 ≤ 0 + cond b 1 0) (sym e) (omega arith)
         one_kept f (suc (suc n)) l e = omega (arith, one_kept f (suc n) (omega arith) e)

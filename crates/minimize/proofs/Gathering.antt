@@ -7,7 +7,7 @@ use Rattle.tables.specs.Book.{Contents, laid, place}
 use Rattle.tables.specs.Sheet.{mean_at}
 use Rattle.tables.proofs.Places.{row_before, place_before}
 use Rattle.theory.specs.Runs.{Closed}
-use Rattle.theory.specs.Hyper.{kept_below}
+use Rattle.theory.specs.Hyper.{count_below}
 use Rattle.theory.proofs.Kept.{kept_rises, numbered}
 use Rattle.weights.specs.Group.{Group, Kind}
 use Rattle.minimize.specs.Rows.{Laid, rows_table}
@@ -24,8 +24,8 @@ module _ (label : ℕ → ℕ) where
   stands_itself q e = eqb-true (label q) q e
 
   -- the number of a state that stands for its class is the count of those before it
-  pub number_first : (q : ℕ) → label q ≡ q → number label q ≡ kept_below (leads label) q
-  number_first q e = ap (kept_below (leads label)) e
+  pub number_first : (q : ℕ) → label q ≡ q → number label q ≡ count_below (leads label) q
+  number_first q e = ap (count_below (leads label)) e
 
   -- so it is no larger
   pub number_small : (q : ℕ) → label q ≡ q → number label q ≤ q
@@ -37,7 +37,7 @@ module _ (label : ℕ → ℕ) where
 
   -- a state has the number of its label
   pub number_label : (q : ℕ) → label (label q) ≡ label q → number label (label q) ≡ number label q
-  number_label q e = ap (kept_below (leads label)) e
+  number_label q e = ap (count_below (leads label)) e
 
 module _ {X : Type 0} (s q k : ℕ) (f : X → X) (old : ℕ → X) where
   -- one place more has moved
@@ -204,19 +204,19 @@ marks_write label old ms n k to v e is at value inside x =
 -- numbers of classes
 module _ (n : ℕ) (label : ℕ → ℕ) (x : Labelled n label) where
   -- is below the count of classes
-  pub number_inside : (q : ℕ) → q < n → number label q < kept_below (leads label) n
+  pub number_inside : (q : ℕ) → q < n → number label q < count_below (leads label) n
   number_inside q l =
       kept_rises (leads label) (label q) n (stands label (label q) (x.leads q l)) (x.inside q l)
 
   -- is that of some state that stands for its class
-  pub number_met : (i : ℕ) → i < kept_below (leads label) n → (q : ℕ) × (q < n) × (label q ≡ q) × (number label q ≡ i)
+  pub number_met : (i : ℕ) → i < count_below (leads label) n → (q : ℕ) × (q < n) × (label q ≡ q) × (number label q ≡ i)
   number_met i l =
       let s = numbered (leads label) n i l in
       let e : label s.state ≡ s.state = stands_itself label s.state s.is_kept in
       (s.state, s.inside, e, number_first label s.state e ∙ s.number)
 
   -- there is a class if there is a state
-  pub some_class : 1 ≤ n → 1 ≤ kept_below (leads label) n
+  pub some_class : 1 ≤ n → 1 ≤ count_below (leads label) n
   some_class l = omega (arith, number_inside 0 (omega arith))
 
 -- the table of classes is closed
@@ -227,7 +227,7 @@ gathered_closed G t l label closed x gathered =
       start_inside = omega (arith, gathered.start, gathered.states, number_inside t.states label x t.start closed.start_inside);
       target_inside =
           λ i a m b.
-          let few : i < kept_below (leads label) t.states = omega (arith, gathered.states) in
+          let few : i < count_below (leads label) t.states = omega (arith, gathered.states) in
           let q = number_met t.states label x i few in
           let letter : a < t.letters = omega (arith, gathered.letters) in
           let to : l.target i a ≡ number label (t.target q.0 a) =
@@ -253,7 +253,7 @@ module _
     (old : Laid K c)
     (given : Numbers c.count label numbers)
     (moved : Moved K c.letters c.count label numbers c (laid ts ws ms c.letters c.count))
-    (all : m ≡ kept_below (leads label) c.count)
+    (all : m ≡ count_below (leads label) c.count)
     (first : v ≡ numbers (slice_index ts 0))
     (long : length c.targets ≡ length ts)
   where

@@ -5,7 +5,7 @@ use Rattle.std.proofs.lemmas.List.{length-take, length-drop, length-replicate, g
 use Rattle.std.proofs.lemmas.Nat.{mul-le}
 use Rattle.std.specs.Prelude.{slice_index, slice_range}
 use Rattle.weights.specs.Group.{Kind}
-use Rattle.theory.specs.Hyper.{kept_below}
+use Rattle.theory.specs.Hyper.{count_below}
 use Rattle.theory.proofs.Kept.{counts_alike}
 use Rattle.minimize.specs.Steps.{leads}
 use Rattle.minimize.specs.Group.{Grouped}
@@ -162,7 +162,7 @@ module _ {W : Type 0} (K : Kind W) (r : Signatures W) where
             ap (λ y. m + y) (counts ∙ ap (λ o. cond (eqb o n) 1 0) (sym here))
             ∙ ap (λ y. y + cond (leads first' n) 1 0)
             (g.count ∙ counts_alike (leads first) (leads first') n (λ q l. ap (λ o. eqb o q) (sym (kept q l))))
-            ∙ ap (kept_below (leads first')) (sym (add-one n));
+            ∙ ap (count_below (leads first')) (sym (add-one n));
       }
 
   pub row_above : (q p : ℕ) → p < q → HasRow r q → HasRow r p
@@ -195,7 +195,8 @@ module _ {W : Type 0} (K : Kind W) (r : Signatures W) where
       let same : xs ≡ ys =
       ext_get_or 0 xs ys (long ∙ sym long')
       (λ a l. let l' : a < r.letters = omega arith in row_label q a l' ∙ e.label a l' ∙ sym (row_label p a l')) in
-      ap (λ y. fold mixed y xs % b) e.key ∙ ap (λ zs. fold mixed (slice_index r.keys.now p) zs % b) same
+      ap (λ y. fold mixed (mixed 0x811c9dc5 y) xs % b) e.key
+      ∙ ap (λ zs. fold mixed (mixed 0x811c9dc5 (slice_index r.keys.now p)) zs % b) same
 
   pub leads_member :
       (b q p : ℕ) → HasRow r q → Leads K r q p → Member (IsFirst K r) (slot_of r b) q (slot_of r b q) p

@@ -7,8 +7,7 @@ use Rattle.tables.specs.Sheet.{mean_at}
 use Rattle.theory.specs.Kernel.{Kernel, Preamble}
 use Rattle.theory.specs.Hyper.{Hyper, Factor}
 use Rattle.theory.proofs.Search.{kernel_not_preamble}
-use Rattle.minimize.specs.Steps.{Marked, AlmostClasses}
-use Rattle.minimize.specs.Steps.{has_mark}
+use Rattle.minimize.specs.Steps.{Marked, AlmostClasses, has_mark}
 use Rattle.minimize.specs.Choosing.{Choices, is_kept, Redirected}
 use Rattle.minimize.proofs.Choosing.{told_true, told_false, factor_chosen, representative_chosen}
 

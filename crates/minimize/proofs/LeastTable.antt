@@ -7,12 +7,12 @@ use Rattle.tables.specs.Table.{Table, Lawful, Word, scaled, weight_from}
 use Rattle.theory.specs.Runs.{accepts, Dead}
 use Rattle.theory.specs.Series.{Multiple, Equivalent}
 use Rattle.theory.specs.Push.{Smallest, Push}
-use Rattle.theory.specs.Least.{Pushed as Weighed, Least, ReadBefore, MetBefore, InReadingOrder}
-use Rattle.theory.specs.Hyper.{kept_below}
+use Rattle.theory.specs.Least.{Pushed, Least, ReadBefore, MetBefore, InReadingOrder}
+use Rattle.theory.specs.Hyper.{count_below}
 use Rattle.theory.proofs.Basics.{scaled_one, multiple_sym, multiple_trans, multiple_accepts}
 use Rattle.theory.proofs.Search.{push_unique}
 use Rattle.theory.proofs.Kept.{kept_grows}
-use Rattle.minimize.specs.Steps.{Copied, Pushes, Pushed, LivePush, Classes, Gathered, leads, number, none}
+use Rattle.minimize.specs.Steps.{Copied, Pushes, PushedWeights, LivePush, Classes, Gathered, leads, number, none}
 use Rattle.minimize.specs.Gathering.{Labelled}
 use Rattle.minimize.proofs.Alike.{smallest_moved, dead_moved, smallest_not_dead, equivalent_accepts, equivalent_next}
 use Rattle.minimize.proofs.Pushing.{pushed_closed, pushed_normal, pushed_weighs, near_state, arc_live, arc_dead}
@@ -113,7 +113,7 @@ module _
     (label : ℕ → ℕ)
     (copied : Copied G t c)
     (pushes : Pushes G c d u)
-    (pushed : Pushed G c d u p)
+    (pushed : PushedWeights G c d u p)
     (classes : Classes G p label)
     (gathered : Gathered G p label l)
   where
@@ -239,7 +239,7 @@ module _
         let letter : a < p.letters = omega (arith, pushed.letters) in
         gathered.target j a (in_pushed j n) letter (labelled.leads i m)
         ∙ ap (number label) (pushed.target j a n h)
-        ∙ ap (kept_below (leads label)) (label_next i a m h)
+        ∙ ap (count_below (leads label)) (label_next i a m h)
 
     least_target :
         (i a : ℕ) → i < c.states → a < c.letters →
@@ -304,7 +304,7 @@ module _
     start_zero =
         let zero : c.start ≡ 0 = copied.order.start_first in
         let first : label 0 ≡ 0 = omega (arith, label_first 0 (omega (arith, copied.closed.start_inside))) in
-        ap (number label) zero ∙ ap (kept_below (leads label)) first
+        ap (number label) zero ∙ ap (count_below (leads label)) first
 
     -- labels are met in the order of their numbers, and none later than another state of its class
     read_before :
@@ -322,12 +322,12 @@ module _
 
     in_least : (i : ℕ) → i < c.states → number label i < l.states
     in_least i m =
-        omega (arith, gathered.states, ap (kept_below (leads label)) pushed.states, number_inside c.states label labelled i m)
+        omega (arith, gathered.states, ap (count_below (leads label)) pushed.states, number_inside c.states label labelled i m)
 
     met_least : (i : ℕ) → i < l.states → (q : ℕ) × (q < c.states) × (label q ≡ q) × (number label q ≡ i)
     met_least i m =
-        let few : i < kept_below (leads label) c.states =
-        omega (arith, gathered.states, ap (kept_below (leads label)) pushed.states) in
+        let few : i < count_below (leads label) c.states =
+        omega (arith, gathered.states, ap (count_below (leads label)) pushed.states) in
         number_met c.states label labelled i few
 
     start_least : l.start ≡ number label c.start
@@ -361,7 +361,7 @@ module _
               ap (λ i. l.target i a) (sym j.3 ∙ sym (number_label label j.0 (labelled.leads j.0 j.1)))
               ∙ arc_least j.0 a j.1 h in
               let i = met_least y (omega (arith, to, in_least r r_inside)) in
-              let own : number label i.0 ≡ kept_below (leads label) i.0 = number_first label i.0 i.2 in
+              let own : number label i.0 ≡ count_below (leads label) i.0 = number_first label i.0 i.2 in
               let below : i.0 < r =
               elim (cases_lt i.0 (label r)) [
                 | inl before ↦ omega (arith, label_first r r_inside)
@@ -373,7 +373,7 @@ module _
               (met_before j.0 a i.0 j.2 (copied.order.arcs j.0 a i.0 j.1 h below)));
         }
 
-    start_weighs : Weighed G t t.start t.start_weight l.start_weight
+    start_weighs : Pushed G t t.start t.start_weight l.start_weight
     start_weighs =
         let given = gathered.start_weight ∙ pushed.start_weight in
         let x : G.Mean = G.mul c.start_weight (u c.start) in
@@ -420,7 +420,7 @@ module _
               classes.smallest i.0 j.0 (in_pushed i.0 i.1) (in_pushed j.0 j.1) (equivalent_there i.0 j.0 i.1 j.1 e') in
               ap class_of (sym i.2)
               ∙ class_copy i.0 i.1
-              ∙ ap (kept_below (leads label)) same
+              ∙ ap (count_below (leads label)) same
               ∙ sym (class_copy j.0 j.1)
               ∙ ap class_of j.2;
           equivalent =
@@ -464,6 +464,6 @@ module _
 -- copied, pushed, told apart and gathered, a table becomes its least table
 pub least_table :
     (G : Group) (t c p l : Table G.Mean) (d : ℕ → ℕ) (u : ℕ → G.Mean) (label : ℕ → ℕ) → Lawful t → Copied G t c → Pushes G c d u →
-    Pushed G c d u p → Classes G p label → Gathered G p label l → Least G t l
+    PushedWeights G c d u p → Classes G p label → Gathered G p label l → Least G t l
 least_table G t c p l d u label lawful copied pushes pushed classes gathered =
     is_least G t c p l d u label copied pushes pushed classes gathered

@@ -13,5 +13,7 @@ pub mod AlmostClasses
 pub mod HyperTable
 pub mod Redirecting
 pub mod Remarking
+pub mod SameLeast
 pub mod Compiling
 pub mod Filling
+pub mod DrawnBook

@@ -1,18 +1,18 @@
 -- Peeling ends with the states that words of every length lead to, or are accepted from. Assumes nothing.
-use Rattle.std.proofs.Common.{◌≡◌, ◌≢◌, ℕ, zero, suc, ◌+◌, ◌*◌, ◌%◌, ◌<◌, ◌≤◌, Bool, true, false, ltb, eqb, List, [], ◌∷◌, ◌++◌, length, get_or, replicate, ◌==◌, inl, inr, sym, refl, ap, ◌∙◌, subst, arith}
+use Rattle.std.proofs.Common.{◌≡◌, ◌≢◌, ℕ, zero, suc, ◌+◌, ◌*◌, ◌%◌, ◌<◌, ◌≤◌, Bool, true, false, ltb, eqb, List, [], ◌∷◌, ◌++◌, length, get_or, set, replicate, Decides, ◌==◌, inl, inr, sym, refl, ap, ◌∙◌, subst, arith}
 use Rattle.std.proofs.lemmas.Bool.{true≢false, cases_Bool, cases_lt, cases_eq, ltb-false, eq-eqb, ne_eqb}
-use Rattle.std.proofs.lemmas.List.{get_or-replicate, length-append}
+use Rattle.std.proofs.lemmas.List.{get_or-replicate, get_or-set_same, get_or-set_other, length-append}
 use Rattle.tables.specs.Table.{Table, Word}
 use Rattle.theory.specs.Runs.{led, accepts, Closed, Reachable, Live, Dead}
 use Rattle.theory.specs.Kernel.{Infinite, Finite, LeadsTo, AcceptedFrom, Kernel, Preamble, CoKernel, CoPreamble}
-use Rattle.theory.specs.Hyper.{kept_below}
+use Rattle.theory.specs.Hyper.{count_below}
 use Rattle.theory.proofs.Basics.{word_append, word_left, word_right, led_append, led_inside}
 use Rattle.tables.specs.Book.{laid}
 use Rattle.weights.specs.Group.{Group, Kind}
 use Rattle.minimize.specs.Rows.{rows_table}
-use Rattle.minimize.specs.Steps.{none, Told, Pushes, Normal, Marked}
-use Rattle.minimize.specs.Steps.{has_mark}
-use Rattle.minimize.specs.Peeling.{TellsDead, Arc, Back, Held, Holding, Peeled, Added}
+use Rattle.minimize.specs.Compile.{Tells}
+use Rattle.minimize.specs.Steps.{none, Pushes, Normal, Marked, has_mark}
+use Rattle.minimize.specs.Peeling.{TellsDead, ArcBelow, Arc, Back, Held, Holding, Peeled, Added}
 use Rattle.minimize.proofs.Keeping.{kept_stands}
 
 -- a word over s letters of at least k letters has a property
@@ -120,10 +120,10 @@ pub record Done (f : ℕ → ℕ) (i : ℕ) (before after : List ℕ) : Type 0 w
 
 -- a round after which as many states are marked took no mark away
 settled :
-    (n : ℕ) (E : ℕ → ℕ → Type 0) (m left : ℕ → Bool) → Peeled n E m left → ltb (kept_below left n) (kept_below m n) ≡ false →
+    (n : ℕ) (E : ℕ → ℕ → Type 0) (m left : ℕ → Bool) → Peeled n E m left → ltb (count_below left n) (count_below m n) ≡ false →
     (q : ℕ) → q < n → left q ≡ true → Held n E left q
 settled n E m left round same q l e =
-    let more = ltb-false (kept_below left n) (kept_below m n) same in
+    let more = ltb-false (count_below left n) (count_below m n) same in
     let h = round.held q l e in
     record {
       by = h.by;
@@ -170,6 +170,71 @@ module _ (k n : ℕ) (E : ℕ → ℕ → Type 0) (m held : ℕ → Bool) where
             ];
       }
 
+-- marks after one is written
+module _ (held : List ℕ) (i x : ℕ) (room : i < length held) where
+  mark_here : (q : ℕ) → q ≡ i → has_mark (set held i x) q ≡ (x == 1)
+  mark_here q e = ap (λ p. has_mark (set held i x) p) e ∙ ap (λ y. y == 1) (get_or-set_same held i x 0 room)
+
+  mark_other : (q : ℕ) → q ≢ i → has_mark (set held i x) q ≡ has_mark held q
+  mark_other q other = ap (λ y. y == 1) (get_or-set_other held i q x 0 other)
+
+-- the target of one more arc is marked
+pub added_more :
+    {M : Type 0} (t : Table M) (s p i : ℕ) (before : ℕ → Bool) (held : List ℕ) → t.target p s ≡ i → i < length held →
+    Added (ArcBelow t s p) before (has_mark held) → Added (ArcBelow t (s + 1) p) before (has_mark (set held i 1))
+added_more t s p i before held leads room added =
+    record {
+      stays = λ q e. stays q (added.stays q e);
+      met =
+          λ q arc.
+          elim (cases_eq arc.letter s) [
+            | inl last ↦ mark_here held i 1 room q (sym arc.leads ∙ ap (t.target p) last ∙ leads)
+            | inr other ↦
+                stays q (added.met q (record { letter = arc.letter; is_letter = omega (arith, arc.is_letter, other); leads = arc.leads }))
+          ];
+      only =
+          λ q e.
+          elim (cases_eq q i) [
+            | inl same ↦ inr (record { letter = s; is_letter = omega arith; leads = leads ∙ sym same })
+            | inr other ↦
+                elim (added.only q (sym (mark_other held i 1 room q other) ∙ e)) [
+                  | inl was ↦ inl was
+                  | inr arc ↦
+                      inr (record { letter = arc.letter; is_letter = omega (arith, arc.is_letter); leads = arc.leads })
+                ]
+          ];
+    }
+  where
+    stays : (q : ℕ) → has_mark held q ≡ true → has_mark (set held i 1) q ≡ true
+    stays q e =
+        elim (cases_eq q i) [
+          | inl same ↦ mark_here held i 1 room q same
+          | inr other ↦ mark_other held i 1 room q other ∙ e
+        ]
+
+-- one more state is marked where it is held
+pub holding_more :
+    (n k i x : ℕ) (E : ℕ → ℕ → Type 0) (m : ℕ → Bool) (b : Bool) (held : List ℕ) → i ≡ k → k < length held → (x == 1) ≡ b →
+    Decides b (Held n E m k) → Holding n k E m (has_mark held) → Holding n (k + 1) E m (has_mark (set held i x))
+holding_more n k i x E m b held at room is decides holding =
+    let inside : i < length held = omega arith in
+    record {
+      met =
+          λ q l h.
+          elim (cases_eq q k) [
+            | inl last ↦
+                mark_here held i x inside q (last ∙ sym at) ∙ is ∙ decides.1 (subst (Held n E m) last h)
+            | inr other ↦ mark_other held i x inside q (omega arith) ∙ holding.met q (omega arith) h
+          ];
+      only =
+          λ q l e.
+          elim (cases_eq q k) [
+            | inl last ↦
+                subst (Held n E m) (sym last) (decides.0 (sym is ∙ sym (mark_here held i x inside q (last ∙ sym at)) ∙ e))
+            | inr other ↦ holding.only q (omega arith) (sym (mark_other held i x inside q (omega arith)) ∙ e)
+          ];
+    }
+
 -- a round that takes no mark away: words of every length are there for a marked state, and short ones alone for another
 module _ (n s : ℕ) (E : ℕ → ℕ → Type 0) (P : ℕ → List ℕ → Type 0) (growing : Growing n s E P) (m : ℕ → Bool) where
   held_long :
@@ -189,36 +254,36 @@ module _ (n s : ℕ) (E : ℕ → ℕ → Type 0) (P : ℕ → List ℕ → Type
 
   told_cases :
       Peeling n s P m → ((q : ℕ) → q < n → m q ≡ true → Held n E m q) → (q : ℕ) → q < n →
-      Told (m q) (Infinite s (P q)) (Finite s (P q))
+      Tells (m q) (Infinite s (P q)) (Finite s (P q))
   told_cases before held q l =
       elim (cases_Bool (m q)) [
-        | inl e ↦ subst (λ b. Told b (Infinite s (P q)) (Finite s (P q))) (sym e) (λ k. held_long before held k q l e)
-        | inr e ↦ subst (λ b. Told b (Infinite s (P q)) (Finite s (P q))) (sym e) (before.depth, peeled_short before q l e)
+        | inl e ↦ subst (λ b. Tells b (Infinite s (P q)) (Finite s (P q))) (sym e) (λ k. held_long before held k q l e)
+        | inr e ↦ subst (λ b. Tells b (Infinite s (P q)) (Finite s (P q))) (sym e) (before.depth, peeled_short before q l e)
       ]
 
 last_round :
     {n s : ℕ} {E : ℕ → ℕ → Type 0} {P : ℕ → List ℕ → Type 0} {m left : ℕ → Bool} → Growing n s E P → Peeling n s P m →
-    Peeled n E m left → ltb (kept_below left n) (kept_below m n) ≡ false → (q : ℕ) → q < n →
-    Told (left q) (Infinite s (P q)) (Finite s (P q))
+    Peeled n E m left → ltb (count_below left n) (count_below m n) ≡ false → (q : ℕ) → q < n →
+    Tells (left q) (Infinite s (P q)) (Finite s (P q))
 last_round {n = n} {s = s} {E = E} {P = P} {m = m} {left = left} growing before round same =
     told_cases n s E P growing left (peeling_more growing before round) (settled n E m left round same)
 
-pub told_as : {X Y Z W : Type 0} (b : Bool) → (X → Z) → (Y → W) → Told b X Y → Told b Z W
+pub told_as : {X Y Z W : Type 0} (b : Bool) → (X → Z) → (Y → W) → Tells b X Y → Tells b Z W
 told_as true f g x = f x
 told_as false f g y = g y
 
 module _ {M : Type 0} (t : Table M) (closed : Closed t) (m left : ℕ → Bool) where
   pub kernel_told :
       Peeling t.states t.letters (LeadsTo t) m → Peeled t.states (Arc t) m left →
-      ltb (kept_below left t.states) (kept_below m t.states) ≡ false → (q : ℕ) → q < t.states →
-      Told (left q) (Kernel t q) (Preamble t q)
+      ltb (count_below left t.states) (count_below m t.states) ≡ false → (q : ℕ) → q < t.states →
+      Tells (left q) (Kernel t q) (Preamble t q)
   kernel_told before round same q l =
       told_as (left q) (λ x. record { words = x }) (λ x. record { words = x }) (last_round (leading t closed) before round same q l)
 
   pub co_kernel_told :
       Peeling t.states t.letters (AcceptedFrom t) m → Peeled t.states (Back t) m left →
-      ltb (kept_below left t.states) (kept_below m t.states) ≡ false → (q : ℕ) → q < t.states →
-      Told (left q) (CoKernel t q) (CoPreamble t q)
+      ltb (count_below left t.states) (count_below m t.states) ≡ false → (q : ℕ) → q < t.states →
+      Tells (left q) (CoKernel t q) (CoPreamble t q)
   co_kernel_told before round same q l =
       told_as (left q) (λ x. record { words = x }) (λ x. record { words = x }) (last_round (accepted t closed) before round same q l)
 
@@ -242,13 +307,13 @@ kernel_first t m k reached room filled = (
 pub pushes_tell : (G : Group) (t : Table G.Mean) (d : ℕ → ℕ) (u : ℕ → G.Mean) → Pushes G t d u → TellsDead t d
 pushes_tell G t d u pushes = record { tells = tells }
   where
-    tells : (q : ℕ) → q < t.states → Told (d q == none) (Dead t q) (Live t q)
+    tells : (q : ℕ) → q < t.states → Tells (d q == none) (Dead t q) (Live t q)
     tells q l =
         elim (pushes q l) [
           | inl live ↦
-              subst (λ b. Told b (Dead t q) (Live t q)) (sym (ne_eqb (d q) none (omega (arith, live.short))))
+              subst (λ b. Tells b (Dead t q) (Live t q)) (sym (ne_eqb (d q) none (omega (arith, live.short))))
               (record { by = live.word; is_word = live.smallest.is_word; accepted = live.smallest.accepted })
-          | inr dead ↦ subst (λ b. Told b (Dead t q) (Live t q)) (sym (eq-eqb (d q) none dead.far)) dead.dead
+          | inr dead ↦ subst (λ b. Tells b (Dead t q) (Live t q)) (sym (eq-eqb (d q) none dead.far)) dead.dead
         ]
 
 -- so do those of a table that is normal
@@ -258,8 +323,8 @@ normal_tells G t d normal = pushes_tell G t d (λ q. G.one) normal.pushes
 -- what the two searches tell
 pub marked_told :
     (G : Group) (t : Table G.Mean) (kernel co_kernel : List ℕ) →
-    ((q : ℕ) → q < t.states → Told (has_mark kernel q) (Kernel t q) (Preamble t q)) →
-    ((q : ℕ) → q < t.states → Told (has_mark co_kernel q) (CoKernel t q) (CoPreamble t q)) → Marked G t (has_mark kernel) (has_mark co_kernel)
+    ((q : ℕ) → q < t.states → Tells (has_mark kernel q) (Kernel t q) (Preamble t q)) →
+    ((q : ℕ) → q < t.states → Tells (has_mark co_kernel q) (CoKernel t q) (CoPreamble t q)) → Marked G t (has_mark kernel) (has_mark co_kernel)
 marked_told G t kernel co_kernel k o = record { kernel = k; co_kernel = o }
 
 -- writing kernel and co-kernel into the marks keeps which states are final

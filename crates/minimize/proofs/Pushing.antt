@@ -1,8 +1,8 @@
 -- Distances and pushes by rounds, and tables whose weights are pushed. Assumes nothing.
-use Rattle.std.proofs.Common.{get_or, slice_index, slice_set, ◌≡◌, ◌≢◌, ℕ, suc, ◌+◌, ◌-◌, ◌*◌, ◌/◌, ◌%◌, mod-lt, ◌<◌, ◌≤◌, true, false, eqb, cond, List, [], ◌∷◌, length, Some, None, Option, inl, inr, sym, refl, ap, ◌∙◌, subst, arith}
+use Rattle.std.proofs.Common.{get_or, slice_index, slice_set, ◌≡◌, ◌≢◌, ℕ, suc, ◌+◌, ◌-◌, ◌*◌, ◌/◌, ◌<◌, ◌≤◌, true, false, eqb, cond, List, [], ◌∷◌, length, Some, None, Option, inl, inr, sym, refl, ap, ◌∙◌, subst, arith}
 use Rattle.std.proofs.lemmas.Bool.{cases_eq, cases_lt, cond-true, cond-false, eq-eqb, ne_eqb, cases_Bool}
 use Rattle.std.proofs.lemmas.List.{get_or-set_same, get_or-set_other}
-use Rattle.std.proofs.lemmas.Nat.{div-mul-add, div-add-mod', div_below}
+use Rattle.std.proofs.lemmas.Nat.{div-mul-add}
 use Rattle.weights.specs.Codes.{within}
 use Rattle.weights.specs.Group.{Group, Kind}
 use Rattle.tables.specs.Book.{laid, place}
@@ -16,7 +16,7 @@ use Rattle.theory.proofs.Search.{shorter, live_or_dead, smallest_there, push_uni
 use Rattle.theory.proofs.Minimal.{dead_weighs, empty_form}
 use Rattle.tables.proofs.Places.{place_inside}
 use Rattle.minimize.specs.Rows.{rows_table}
-use Rattle.minimize.specs.Steps.{none, LivePush, Pushes, Pushed, Normal}
+use Rattle.minimize.specs.Steps.{none, LivePush, Pushes, PushedWeights, Normal}
 use Rattle.minimize.specs.Pushing.{NoneLong, NoneBelow, FirstLetter, Unmet, Known, Rounding, Rounded, PushedBelow, pushed_arc, pushed_start}
 use Rattle.minimize.proofs.Alike.{smallest_moved, dead_moved, smallest_not_dead}
 use Rattle.minimize.proofs.Memory.{mean_read, mean_set_same, mean_set_other}
@@ -261,14 +261,6 @@ module _ (G : Group) (t : Table G.Mean) where
             ];
       })
 
--- the arc at place 1 + k leads to a state of the table
-pub arc_inside :
-    (ts : List ℕ) (n s k : ℕ) → 1 ≤ s → ((q a : ℕ) → q < n → a < s → slice_index ts (place s q a) < n) → k < n * s → slice_index ts (1 + k) < n
-arc_inside ts n s k some inside l =
-    let q : ℕ = k / s in
-    let e : place s q (k % s) ≡ 1 + k = omega (arith, div-add-mod' k s) in
-    subst (λ j. slice_index ts j < n) e (inside q (k % s) (div_below k s n some l) (mod-lt k some))
-
 -- what slices hold after a write, and what is read from them
 index_here : (xs : List ℕ) (i j x : ℕ) → j ≡ i → i < length xs → slice_index (slice_set xs j x) i ≡ x
 index_here xs i j x e l = ap (λ k. slice_index (slice_set xs k x) i) e ∙ get_or-set_same xs i x 0 l
@@ -327,7 +319,7 @@ module _ {W : Type 0} (K : Kind W) where
   pub pushed_more :
       (s : ℕ) (d : ℕ → ℕ) (u : ℕ → K.group.Mean) (ts : List ℕ) (old ws : List W) (i : ℕ) (y x : W) → 1 + i < length ws →
       PushedBelow K s d u ts old ws i → y ≡ get_or ws (1 + i) y →
-      K.mean x ≡ pushed_arc K.group d u (i / s) (K.mean y) (slice_index ts (1 + i)) →
+      K.mean x ≡ pushed_arc K.group d u (K.group.inv (u (i / s))) (K.mean y) (slice_index ts (1 + i)) →
       PushedBelow K s d u ts old (slice_set ws (1 + i) x) (i + 1)
   pushed_more s d u ts old ws i y x room before read weighs =
       record {
@@ -336,11 +328,11 @@ module _ {W : Type 0} (K : Kind W) where
             elim (cases_eq k i) [
               | inl same ↦
                   subst
-                  (λ k. mean_at K (slice_set ws (1 + i) x) (1 + k) ≡ pushed_arc K.group d u (k / s) (mean_at K old (1 + k)) (slice_index ts (1 + k)))
+                  (λ k. mean_at K (slice_set ws (1 + i) x) (1 + k) ≡ pushed_arc K.group d u (K.group.inv (u (k / s))) (mean_at K old (1 + k)) (slice_index ts (1 + k)))
                   (sym same)
                   (mean_set_same K ws (1 + i) x room
                   ∙ weighs
-                  ∙ ap (λ z. pushed_arc K.group d u (i / s) z (slice_index ts (1 + i)))
+                  ∙ ap (λ z. pushed_arc K.group d u (K.group.inv (u (i / s))) z (slice_index ts (1 + i)))
                   (ap K.mean read ∙ mean_read K ws (1 + i) y room ∙ before.left i (omega arith)))
               | inr other ↦ mean_set_other K ws (1 + i) (1 + k) x (omega arith) ∙ before.done k (omega arith)
             ];
@@ -348,12 +340,28 @@ module _ {W : Type 0} (K : Kind W) where
         start = mean_set_other K ws (1 + i) 0 x (omega arith) ∙ before.start;
       }
 
+  -- the arc of state q at letter a is pushed, by the inverse v of the state's push
+  pub pushed_letter :
+      (s : ℕ) (d : ℕ → ℕ) (u : ℕ → K.group.Mean) (ts : List ℕ) (old ws : List W) (q a j : ℕ) (v : K.group.Mean) (y x : W) → a < s →
+      j ≡ 1 + (q * s + a) → j < length ws → v ≡ K.group.inv (u q) → y ≡ get_or ws j y →
+      K.mean x ≡ pushed_arc K.group d u v (K.mean y) (slice_index ts j) → PushedBelow K s d u ts old ws (q * s + a) →
+      PushedBelow K s d u ts old (slice_set ws j x) (q * s + (a + 1))
+  pushed_letter s d u ts old ws q a j v y x inside at room turned read weighs before =
+      let i : ℕ = q * s + a in
+      let own : v ≡ K.group.inv (u (i / s)) = turned ∙ ap (λ p. K.group.inv (u p)) (sym (div-mul-add q s a inside)) in
+      let next : i + 1 ≡ q * s + (a + 1) = omega arith in
+      subst (PushedBelow K s d u ts old (slice_set ws j x)) next
+      (subst (λ k. PushedBelow K s d u ts old (slice_set ws k x) (i + 1)) (sym at)
+      (pushed_more s d u ts old ws i y x (subst (λ k. k < length ws) at room) before (subst (λ k. y ≡ get_or ws k y) at read)
+      (subst (λ k. K.mean x ≡ pushed_arc K.group d u (K.group.inv (u (i / s))) (K.mean y) (slice_index ts k)) at
+      (weighs ∙ ap (λ w. pushed_arc K.group d u w (K.mean y) (slice_index ts j)) own))))
+
   -- all arcs are pushed, and then the start
   pub pushed_all :
       (s n : ℕ) (d : ℕ → ℕ) (u : ℕ → K.group.Mean) (ts : List ℕ) (old ws : List W) (y x : W) → 0 < length ws →
       PushedBelow K s d u ts old ws (n * s) → y ≡ get_or ws 0 y → K.mean x ≡ pushed_start K.group d u (K.mean y) (slice_index ts 0) →
       (ms : List ℕ) →
-      Pushed K.group (rows_table K (laid ts old ms s n)) d u (rows_table K (laid ts (slice_set ws 0 x) ms s n))
+      PushedWeights K.group (rows_table K (laid ts old ms s n)) d u (rows_table K (laid ts (slice_set ws 0 x) ms s n))
   pushed_all s n d u ts old ws y x room below read weighs ms =
       record {
         states = refl;
@@ -373,12 +381,12 @@ module _ {W : Type 0} (K : Kind W) where
             mean_set_other K ws 0 (place s q a) x (omega arith)
             ∙ ap (mean_at K ws) e
             ∙ below.done k inside
-            ∙ ap (λ p. pushed_arc K.group d u p (mean_at K old (1 + k)) (slice_index ts (1 + k))) (div-mul-add q s a m)
-            ∙ ap (λ j. pushed_arc K.group d u q (mean_at K old j) (slice_index ts j)) (sym e);
+            ∙ ap (λ p. pushed_arc K.group d u (K.group.inv (u p)) (mean_at K old (1 + k)) (slice_index ts (1 + k))) (div-mul-add q s a m)
+            ∙ ap (λ j. pushed_arc K.group d u (K.group.inv (u q)) (mean_at K old j) (slice_index ts j)) (sym e);
       }
 
 -- a table whose weights are pushed is closed
-pub pushed_closed : (G : Group) (t : Table G.Mean) (d : ℕ → ℕ) (u : ℕ → G.Mean) (p : Table G.Mean) → Closed t → Pushed G t d u p → Closed p
+pub pushed_closed : (G : Group) (t : Table G.Mean) (d : ℕ → ℕ) (u : ℕ → G.Mean) (p : Table G.Mean) → Closed t → PushedWeights G t d u p → Closed p
 pushed_closed G t d u p closed pushed =
     record {
       start_inside = rw (pushed.start, pushed.states) closed.start_inside;
@@ -390,7 +398,7 @@ pushed_closed G t d u p closed pushed =
     }
 
 -- a table t whose weights are pushed to p
-module _ (G : Group) (t : Table G.Mean) (d : ℕ → ℕ) (u : ℕ → G.Mean) (p : Table G.Mean) (closed : Closed t) (pushes : Pushes G t d u) (pushed : Pushed G t d u p) where
+module _ (G : Group) (t : Table G.Mean) (d : ℕ → ℕ) (u : ℕ → G.Mean) (p : Table G.Mean) (closed : Closed t) (pushes : Pushes G t d u) (pushed : PushedWeights G t d u p) where
   word_in_pushed : (w : List ℕ) → Word t.letters w → Word p.letters w
   word_in_pushed w h = subst (λ s. Word s w) (sym pushed.letters) h
 

@@ -6,10 +6,11 @@ use Rattle.weights.specs.Group.{Kind}
 use Rattle.tables.specs.Book.{laid, place}
 use Rattle.tables.specs.Sheet.{mean_at}
 use Rattle.tables.proofs.Places.{row_before, place_before}
-use Rattle.theory.specs.Hyper.{kept_below}
+use Rattle.theory.specs.Hyper.{count_below}
 use Rattle.theory.proofs.Kept.{kept_rises, numbered}
 use Rattle.minimize.specs.declared.redirect.Redirection.{Redirection}
-use Rattle.minimize.specs.Rows.{Laid, rows_table, laid_rows}
+use Rattle.minimize.specs.Rows.{Laid, rows_table}
+use Rattle.minimize.specs.Slices.{laid_rows}
 use Rattle.minimize.specs.Choosing.{ToKept, Redirected}
 use Rattle.minimize.specs.Redirecting.{kept_of, number_in, moved_to, weighed_to, given, RowTo, RowsTo}
 use Rattle.minimize.proofs.Keeping.{kept_few}
@@ -18,8 +19,8 @@ use Rattle.minimize.proofs.Memory.{mean_set_same, mean_set_other}
 -- so many states below m are kept, and they are numbered
 pub record Counted (kept : ℕ → Bool) (m h : ℕ) (xs : List ℕ) : Type 0 where
   pub few : h ≤ m
-  pub count : h ≡ kept_below kept m
-  pub numbers : (q : ℕ) → q < m → get_or xs q 0 ≡ kept_below kept q
+  pub count : h ≡ count_below kept m
+  pub numbers : (q : ℕ) → q < m → get_or xs q 0 ≡ count_below kept q
 
 module _ {W : Type 0} (d : Redirection W) where
   -- there is room for the row of each kept state

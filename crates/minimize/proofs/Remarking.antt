@@ -8,7 +8,7 @@ use Rattle.theory.specs.Series.{Equivalent}
 use Rattle.theory.specs.Least.{Least}
 use Rattle.theory.specs.Kernel.{Kernel, Preamble, CoKernel, CoPreamble}
 use Rattle.theory.proofs.Basics.{led_inside}
-use Rattle.minimize.specs.Steps.{Told}
+use Rattle.minimize.specs.Compile.{Tells}
 use Rattle.minimize.proofs.Peeling.{told_as}
 
 -- the table with other final states
@@ -45,8 +45,8 @@ module _ {M : Type 0} (t : Table M) (f : ℕ → Bool) where
       }
 
   pub remarked_told_kernel :
-      (m : ℕ → Bool) → ((q : ℕ) → q < t.states → Told (m q) (Kernel t q) (Preamble t q)) → (q : ℕ) → q < t.states →
-      Told (m q) (Kernel (remarked t f) q) (Preamble (remarked t f) q)
+      (m : ℕ → Bool) → ((q : ℕ) → q < t.states → Tells (m q) (Kernel t q) (Preamble t q)) → (q : ℕ) → q < t.states →
+      Tells (m q) (Kernel (remarked t f) q) (Preamble (remarked t f) q)
   remarked_told_kernel m told q l = told_as (m q) (remarked_kernel q) (remarked_preamble q) (told q l)
 
   -- where f says what the table says of its states
@@ -67,8 +67,8 @@ module _ {M : Type 0} (t : Table M) (f : ℕ → Bool) where
         }
 
     pub remarked_told_co_kernel :
-        (m : ℕ → Bool) → ((q : ℕ) → q < t.states → Told (m q) (CoKernel t q) (CoPreamble t q)) → (q : ℕ) → q < t.states →
-        Told (m q) (CoKernel (remarked t f) q) (CoPreamble (remarked t f) q)
+        (m : ℕ → Bool) → ((q : ℕ) → q < t.states → Tells (m q) (CoKernel t q) (CoPreamble t q)) → (q : ℕ) → q < t.states →
+        Tells (m q) (CoKernel (remarked t f) q) (CoPreamble (remarked t f) q)
     remarked_told_co_kernel m told q l = told_as (m q) (remarked_co_kernel q l) (remarked_co_preamble q l) (told q l)
 
 -- words weigh what they did, so the same states are equivalent

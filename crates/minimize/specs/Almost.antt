@@ -3,10 +3,10 @@ use Rattle.std.specs.Prelude.{◌≡◌, ℕ, zero, suc, ◌<◌, ◌≤◌, Boo
 use Rattle.weights.specs.Group.{Group, Kind}
 use Rattle.tables.specs.Table.{Table}
 use Rattle.tables.specs.Sheet.{mean_at}
-use Rattle.theory.specs.Hyper.{kept_below}
-use Rattle.minimize.specs.Rows.{Laid, rows_table, laid_rows}
-use Rattle.minimize.specs.Steps.{none, leads}
-use Rattle.minimize.specs.Steps.{has_mark}
+use Rattle.theory.specs.Hyper.{count_below}
+use Rattle.minimize.specs.Rows.{Laid, rows_table}
+use Rattle.minimize.specs.Slices.{laid_rows}
+use Rattle.minimize.specs.Steps.{none, leads, has_mark}
 use Rattle.minimize.specs.declared.almost.Reading.{Reading}
 
 module _ (G : Group) (t : Table G.Mean) where
@@ -38,7 +38,7 @@ module _ (G : Group) (t : Table G.Mean) (o : ℕ → Bool) (label : ℕ → ℕ)
     pub same : (q : ℕ) → q < t.states → OneRow q (label' q)
     pub one_first : (q p : ℕ) → q < t.states → p < t.states → OneRow q p → label' q ≡ label' p
     pub towards : (q : ℕ) → q < t.states → factor' q ≡ G.mul (base G t o factor q t.letters) (G.inv (base G t o factor (label' q) t.letters))
-    pub count : m ≡ kept_below (leads label') t.states
+    pub count : m ≡ count_below (leads label') t.states
 
 -- what is read
 module _ {W : Type 0} (K : Kind W) (r : Reading W) where

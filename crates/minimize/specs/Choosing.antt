@@ -3,12 +3,8 @@ use Rattle.std.specs.Prelude.{◌≡◌, ℕ, ◌+◌, ◌<◌, ◌≤◌, Bool,
 use Rattle.weights.specs.Group.{Group, Kind}
 use Rattle.tables.specs.Table.{Table}
 use Rattle.tables.specs.Sheet.{mean_at}
-use Rattle.theory.specs.Hyper.{kept_below}
-use Rattle.minimize.specs.Steps.{has_mark}
-
--- the leader of a label that has none
-abbrev pub no_leader : ℕ
-no_leader = 65535
+use Rattle.theory.specs.Hyper.{count_below}
+use Rattle.minimize.specs.Steps.{none, has_mark}
 
 module _ (n : ℕ) (labels kernel : List ℕ) where
   -- the order in which one of n states is chosen: kernel states come first, then it goes by number
@@ -23,7 +19,7 @@ module _ (n : ℕ) (labels kernel : List ℕ) where
 
   -- of the states below m none has a label
   pub record NoLeader (m label r : ℕ) : Type 0 where
-    pub none : r ≡ no_leader
+    pub no_leader : r ≡ none
     pub no_state : (p : ℕ) → p < m → slice_index labels p ≡ label → ⊥
 
   -- of the states below m that have a label r is the first
@@ -39,7 +35,7 @@ module _ (n : ℕ) (labels kernel : List ℕ) where
 
 -- a later state of its label goes before the leader so far
 abbrev pub goes_first : List ℕ → ℕ → ℕ → Bool
-goes_first kernel q leader = leader == no_leader || (has_mark kernel q && not (has_mark kernel leader))
+goes_first kernel q leader = leader == none || (has_mark kernel q && not (has_mark kernel leader))
 
 module _ {W : Type 0} (K : Kind W) where
   -- the factor of state q towards its representative r, from the factors of both towards one state
@@ -64,14 +60,14 @@ pub record ToKept (n : ℕ) (kernel representatives : List ℕ) : Type 0 where
 
 -- h is what is left of t where arcs into states that are not kept are redirected and those states are dropped
 pub record Redirected (G : Group) (t h : Table G.Mean) (kept : ℕ → Bool) (r : ℕ → ℕ) (f : ℕ → G.Mean) : Type 0 where
-  pub states : h.states ≡ kept_below kept t.states
+  pub states : h.states ≡ count_below kept t.states
   pub letters : h.letters ≡ t.letters
-  pub final : (q : ℕ) → q < t.states → kept q ≡ true → h.final (kept_below kept q) ≡ t.final q
+  pub final : (q : ℕ) → q < t.states → kept q ≡ true → h.final (count_below kept q) ≡ t.final q
   pub target :
       (q a : ℕ) → q < t.states → a < t.letters → kept q ≡ true →
-      h.target (kept_below kept q) a ≡ kept_below kept (cond (kept (t.target q a)) (t.target q a) (r (t.target q a)))
+      h.target (count_below kept q) a ≡ count_below kept (cond (kept (t.target q a)) (t.target q a) (r (t.target q a)))
   pub weight :
       (q a : ℕ) → q < t.states → a < t.letters → kept q ≡ true →
-      h.weight (kept_below kept q) a ≡ cond (kept (t.target q a)) (t.weight q a) (G.mul (t.weight q a) (f (t.target q a)))
-  pub start : h.start ≡ kept_below kept (cond (kept t.start) t.start (r t.start))
+      h.weight (count_below kept q) a ≡ cond (kept (t.target q a)) (t.weight q a) (G.mul (t.weight q a) (f (t.target q a)))
+  pub start : h.start ≡ count_below kept (cond (kept t.start) t.start (r t.start))
   pub start_weight : h.start_weight ≡ cond (kept t.start) t.start_weight (G.mul t.start_weight (f t.start))

@@ -2,7 +2,7 @@
 use Rattle.std.specs.Prelude.{◌≡◌, ℕ, ◌<◌, ◌≤◌, List, slice_index}
 use Rattle.weights.specs.Group.{Group}
 use Rattle.tables.specs.Table.{Table}
-use Rattle.theory.specs.Hyper.{kept_below}
+use Rattle.theory.specs.Hyper.{count_below}
 use Rattle.minimize.specs.Steps.{leads}
 
 -- the label of an arc's target
@@ -21,4 +21,4 @@ module _ (G : Group) (t : Table G.Mean) where
     pub first : (q : ℕ) → q < t.states → label' q ≤ q
     pub same : (q : ℕ) → q < t.states → OneRow label q (label' q)
     pub one_first : (q p : ℕ) → q < t.states → p < t.states → OneRow label q p → label' q ≡ label' p
-    pub count : m ≡ kept_below (leads label') t.states
+    pub count : m ≡ count_below (leads label') t.states

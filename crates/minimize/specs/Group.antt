@@ -2,7 +2,7 @@
 use Rattle.std.specs.Prelude.{◌≡◌, ℕ, ◌+◌, ◌*◌, ◌<◌, ◌≤◌, List, slice_index}
 use Rattle.weights.specs.Group.{Kind}
 use Rattle.tables.specs.Sheet.{mean_at}
-use Rattle.theory.specs.Hyper.{kept_below}
+use Rattle.theory.specs.Hyper.{count_below}
 use Rattle.minimize.specs.Steps.{leads}
 
 -- rows q and p are equal: they have one key, and letter by letter one label and elements that mean the same
@@ -16,4 +16,4 @@ pub record Grouped {W : Type 0} (K : Kind W) (s n : ℕ) (keys labels : List ℕ
   pub first_inside : (q : ℕ) → q < n → first q ≤ q
   pub same : (q : ℕ) → q < n → SameRow K s keys labels elements q (first q)
   pub one_first : (q p : ℕ) → q < n → p < n → SameRow K s keys labels elements q p → first q ≡ first p
-  pub count : m ≡ kept_below (leads first) n
+  pub count : m ≡ count_below (leads first) n

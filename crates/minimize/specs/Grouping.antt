@@ -12,7 +12,7 @@ mixed hash label = (bit_xor hash label * 0x01000193) % 2 ^ 32
 -- the bucket of a row, of b buckets
 abbrev pub slot_of : {W : Type 0} → Signatures W → ℕ → ℕ → ℕ
 slot_of r b q =
-    fold mixed (slice_index r.keys.now q) (slice_range r.labels.now (q * r.letters) (q * r.letters + r.letters)) % b
+    fold mixed (mixed 0x811c9dc5 (slice_index r.keys.now q)) (slice_range r.labels.now (q * r.letters) (q * r.letters + r.letters)) % b
 
 -- the slices have all places of row q
 pub record HasRow {W : Type 0} (r : Signatures W) (q : ℕ) : Type 0 where

@@ -1,4 +1,6 @@
 pub mod Rows
+pub mod Slices
+pub mod Memories
 pub mod Compile
 pub mod Steps
 pub mod Group
@@ -11,5 +13,8 @@ pub mod Peeling
 pub mod Choosing
 pub mod Almost
 pub mod Redirecting
-pub mod Outcome
+pub mod Marking
 pub mod Filling
+pub mod Whole
+pub mod Watch
+pub mod Lists

@@ -2,7 +2,8 @@
 use Rattle.std.specs.Prelude.{◌≡◌, ℕ, ◌<◌, ◌⊎◌, Bool, true, ◌==◌}
 use Rattle.tables.specs.Table.{Table}
 use Rattle.theory.specs.Runs.{Dead, Live}
-use Rattle.minimize.specs.Steps.{none, Told}
+use Rattle.minimize.specs.Compile.{Tells}
+use Rattle.minimize.specs.Steps.{none}
 
 module _ {M : Type 0} (t : Table M) where
   -- an arc by one of the first s letters leads from state p to state q
@@ -21,7 +22,7 @@ module _ {M : Type 0} (t : Table M) where
 
   -- the distances tell the dead states from the live ones
   pub record TellsDead (d : ℕ → ℕ) : Type 0 where
-    pub tells : (q : ℕ) → q < t.states → Told (d q == none) (Dead t q) (Live t q)
+    pub tells : (q : ℕ) → q < t.states → Tells (d q == none) (Dead t q) (Live t q)
 
 -- one of the first k states is marked and holds state q, which is what E says
 pub record Held (k : ℕ) (E : ℕ → ℕ → Type 0) (m : ℕ → Bool) (q : ℕ) : Type 0 where

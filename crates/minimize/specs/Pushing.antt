@@ -47,9 +47,10 @@ module _ (G : Group) (t : Table G.Mean) where
 pub record Fresh (b : Bool) (r n : ℕ) (d : ℕ → ℕ) : Type 0 where
   pub stale : b ≡ false → (q : ℕ) → q < n → d q ≢ r
 
--- what an arc of weight x from state q to state p weighs once it is pushed, and what a start in state p does
-abbrev pub pushed_arc : (G : Group) → (ℕ → ℕ) → (ℕ → G.Mean) → ℕ → G.Mean → ℕ → G.Mean
-pushed_arc G d u q x p = cond (d p == none) G.one (G.mul (G.inv (u q)) (G.mul x (u p)))
+-- what an arc of weight x to state p weighs once it is pushed, where v is the inverse of its own state's push, and what a start in state
+-- p does
+abbrev pub pushed_arc : (G : Group) → (ℕ → ℕ) → (ℕ → G.Mean) → G.Mean → G.Mean → ℕ → G.Mean
+pushed_arc G d u v x p = cond (d p == none) G.one (G.mul v (G.mul x (u p)))
 
 abbrev pub pushed_start : (G : Group) → (ℕ → ℕ) → (ℕ → G.Mean) → G.Mean → ℕ → G.Mean
 pushed_start G d u x p = cond (d p == none) G.one (G.mul x (u p))
@@ -58,6 +59,6 @@ pushed_start G d u x p = cond (d p == none) G.one (G.mul x (u p))
 pub record PushedBelow {W : Type 0} (K : Kind W) (s : ℕ) (d : ℕ → ℕ) (u : ℕ → K.group.Mean) (targets : List ℕ) (old new : List W) (i : ℕ) : Type 0 where
   pub done :
       (k : ℕ) → k < i →
-      mean_at K new (1 + k) ≡ pushed_arc K.group d u (k / s) (mean_at K old (1 + k)) (slice_index targets (1 + k))
+      mean_at K new (1 + k) ≡ pushed_arc K.group d u (K.group.inv (u (k / s))) (mean_at K old (1 + k)) (slice_index targets (1 + k))
   pub left : (k : ℕ) → i ≤ k → mean_at K new (1 + k) ≡ mean_at K old (1 + k)
   pub start : mean_at K new 0 ≡ mean_at K old 0

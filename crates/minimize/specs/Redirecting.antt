@@ -4,8 +4,9 @@ use Rattle.weights.specs.Group.{Kind}
 use Rattle.tables.specs.Table.{Table}
 use Rattle.tables.specs.Book.{place}
 use Rattle.tables.specs.Sheet.{mean_at}
-use Rattle.theory.specs.Hyper.{kept_below}
-use Rattle.minimize.specs.Rows.{Laid, rows_table, laid_rows}
+use Rattle.theory.specs.Hyper.{count_below}
+use Rattle.minimize.specs.Rows.{Laid, rows_table}
+use Rattle.minimize.specs.Slices.{laid_rows}
 use Rattle.minimize.specs.Choosing.{is_kept, ToKept}
 use Rattle.minimize.specs.declared.redirect.Redirection.{Redirection}
 
@@ -15,7 +16,7 @@ kept_of d = is_kept d.kernel.now d.representatives.now
 
 -- the number of a state that is kept
 abbrev pub number_in : {W : Type 0} → Redirection W → ℕ → ℕ
-number_in d = kept_below (kept_of d)
+number_in d = count_below (kept_of d)
 
 -- where what leads to state q leads now
 abbrev pub moved_to : {W : Type 0} → Redirection W → ℕ → ℕ

@@ -2,10 +2,9 @@
 use Rattle.std.specs.Prelude.{◌+◌, ◌*◌, ◌%◌, ◌≤◌, length, ◌==◌, slice_index}
 use Rattle.weights.specs.Group.{Kind}
 use Rattle.tables.specs.Table.{Table}
-use Rattle.tables.specs.Book.{Contents, laid, place}
+use Rattle.tables.specs.Book.{Contents, place}
 use Rattle.tables.specs.Sheet.{mean_at}
 use Rattle.theory.specs.Runs.{Closed}
-use Rattle.minimize.specs.declared.rows.Rows.{Rows}
 
 -- the table: place 0 is the start, place 1 + q * letters + a is arc (q, a), and the lowest bit of a mark says that a state is final
 abbrev pub rows_table : {W : Type 0} (K : Kind W) → Contents W → Table K.group.Mean
@@ -30,6 +29,3 @@ pub record Laid {W : Type 0} (K : Kind W) (c : Contents W) : Type 0 where
   pub weight_room : 1 + c.count * c.letters ≤ length c.weights
   pub mark_room : c.count ≤ length c.marks
   pub closed : Closed (rows_table K c)
-
-abbrev pub laid_rows : {W : Type 0} → Rows W → Contents W
-laid_rows r = laid r.targets.now r.weights.now r.marks.now r.letters r.count

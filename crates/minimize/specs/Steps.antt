@@ -1,6 +1,6 @@
 -- What each step of compiling comes to, over tables: from a source to its least table, and from that to its hyper table.
 -- Assumes nothing.
-use Rattle.std.specs.Prelude.{◌≡◌, ℕ, ◌<◌, ◌≤◌, Bool, true, false, cond, List, length, Some, ◌⊎◌, ◌==◌, slice_index}
+use Rattle.std.specs.Prelude.{◌≡◌, ℕ, ◌<◌, ◌≤◌, Bool, cond, List, length, Some, ◌⊎◌, ◌==◌, slice_index}
 use Rattle.weights.specs.Group.{Group}
 use Rattle.tables.specs.Table.{Table, weight_from}
 use Rattle.theory.specs.Runs.{Closed, Reachable, Dead}
@@ -8,9 +8,10 @@ use Rattle.theory.specs.Series.{Equivalent, AlmostBy, AlmostEquivalent}
 use Rattle.theory.specs.Push.{Smallest}
 use Rattle.theory.specs.Least.{InReadingOrder}
 use Rattle.theory.specs.Kernel.{Kernel, Preamble, CoKernel, CoPreamble}
-use Rattle.theory.specs.Hyper.{kept_below}
+use Rattle.theory.specs.Hyper.{count_below}
+use Rattle.minimize.specs.Compile.{Tells}
 
--- the distance that a dead state has
+-- in place of a number: the distance of a dead state, the label and the leader where there is none
 abbrev pub none : ℕ
 none = 65535
 
@@ -20,15 +21,11 @@ leads label q = label q == q
 
 -- the number of a state's class: how many classes come before it
 abbrev pub number : (ℕ → ℕ) → ℕ → ℕ
-number label q = kept_below (leads label) (label q)
+number label q = count_below (leads label) (label q)
 
 -- a state has a mark, where a list of numbers has 1 for it
 abbrev pub has_mark : List ℕ → ℕ → Bool
 has_mark marks q = slice_index marks q == 1
-
--- one fact or another, by a mark
-abbrev pub Told : Bool → Type 0 → Type 0 → Type 0
-Told b X Y = elim b [ true ↦ X | false ↦ Y ]
 
 module _ (G : Group) where
   -- c is a copy of the reachable states of t, numbered in reading order
@@ -65,7 +62,7 @@ module _ (G : Group) where
   Pushes t d u = (q : ℕ) → q < t.states → LivePush t q (d q) (u q) ⊎ DeadPush t q (d q) (u q)
 
   -- p is t with its weights pushed
-  pub record Pushed (t : Table G.Mean) (d : ℕ → ℕ) (u : ℕ → G.Mean) (p : Table G.Mean) : Type 0 where
+  pub record PushedWeights (t : Table G.Mean) (d : ℕ → ℕ) (u : ℕ → G.Mean) (p : Table G.Mean) : Type 0 where
     pub states : p.states ≡ t.states
     pub letters : p.letters ≡ t.letters
     pub start : p.start ≡ t.start
@@ -89,7 +86,7 @@ module _ (G : Group) where
 
   -- l has the classes of t as its states
   pub record Gathered (t : Table G.Mean) (label : ℕ → ℕ) (l : Table G.Mean) : Type 0 where
-    pub states : l.states ≡ kept_below (leads label) t.states
+    pub states : l.states ≡ count_below (leads label) t.states
     pub letters : l.letters ≡ t.letters
     pub start : l.start ≡ number label t.start
     pub start_weight : l.start_weight ≡ t.start_weight
@@ -100,8 +97,8 @@ module _ (G : Group) where
 
   -- marks that tell kernel from preamble states, and co-kernel from co-preamble states
   pub record Marked (t : Table G.Mean) (k o : ℕ → Bool) : Type 0 where
-    pub kernel : (q : ℕ) → q < t.states → Told (k q) (Kernel t q) (Preamble t q)
-    pub co_kernel : (q : ℕ) → q < t.states → Told (o q) (CoKernel t q) (CoPreamble t q)
+    pub kernel : (q : ℕ) → q < t.states → Tells (k q) (Kernel t q) (Preamble t q)
+    pub co_kernel : (q : ℕ) → q < t.states → Tells (o q) (CoKernel t q) (CoPreamble t q)
 
   -- each state has a state of its class of almost-equivalent states, the same for all of the class, and is its multiple by a factor
   pub record AlmostClasses (t : Table G.Mean) (label : ℕ → ℕ) (factor : ℕ → G.Mean) : Type 0 where

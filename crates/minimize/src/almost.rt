@@ -2,18 +2,16 @@ ghost use Rattle.std.specs.Prelude.{◌≡◌, ℕ, ◌*◌, ◌<◌, ◌≤◌,
 ghost use Rattle.tables.specs.Sheet.{mean_at};
 ghost use Rattle.theory.specs.Series.{Equivalent};
 ghost use Rattle.theory.specs.Kernel.{CoKernel, CoPreamble};
-ghost use Rattle.minimize.specs.Rows.{Laid, rows_table, laid_rows};
-ghost use Rattle.minimize.specs.Steps.{Told, AlmostClasses};
-ghost use Rattle.minimize.specs.Steps.{has_mark};
+ghost use Rattle.minimize.specs.Rows.{Laid, rows_table};
+ghost use Rattle.minimize.specs.Slices.{laid_rows};
+ghost use Rattle.minimize.specs.Compile.{Tells};
+ghost use Rattle.minimize.specs.Steps.{AlmostClasses, has_mark};
 ghost use Rattle.minimize.specs.Almost.{Ready, read_table, read_weight, read_base, read_label, read_element, Regrouped};
 ghost use Rattle.minimize.specs.Filling.{FilledRow, Filled};
 
 use crate::group::group;
-use crate::rows::Rows;
+use crate::rows::{NONE, Rows};
 use weights::Weight;
-
-// The label of an arc to a co-preamble state.
-const NONE: u16 = 65535;
 
 // A table, with a label and a factor towards it for each state.
 #[derive(Clone, Copy)]
@@ -61,7 +59,7 @@ impl<W: Weight> Reading<'_, W> {
         base
     }
 
-    // The label in the row of a state.
+    // The label in the row of a state. An arc to a co-preamble state has none.
     fn row_label(&self, state: u16, letter: u8) -> u16
         requires ready { Ready W.kind self.now }
         requires inside { state < self.now.rows.count }
@@ -224,7 +222,7 @@ pub(crate) fn find_almost<W: Weight>(
     factors: &mut [W],
 )
     requires laid { Laid W.kind (laid_rows rows) }
-    requires co_kernel { (q : ℕ) → q < rows.count → Told (has_mark co_kernel.now q) (CoKernel (rows_table W.kind (laid_rows rows)) q) (CoPreamble (rows_table W.kind (laid_rows rows)) q) }
+    requires co_kernel { (q : ℕ) → q < rows.count → Tells (has_mark co_kernel.now q) (CoKernel (rows_table W.kind (laid_rows rows)) q) (CoPreamble (rows_table W.kind (laid_rows rows)) q) }
     requires apart { (q p : ℕ) → q < rows.count → p < rows.count → Equivalent W.kind.group (rows_table W.kind (laid_rows rows)) q p → q ≡ p }
     requires co_kernel_room { rows.count ≤ length co_kernel.now }
     requires row_label_room { rows.count * rows.letters ≤ length row_labels.old }

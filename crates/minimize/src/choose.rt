@@ -1,15 +1,14 @@
 ghost use Rattle.std.specs.Prelude.{◌≡◌, ℕ, ◌+◌, ◌<◌, ◌≤◌, ◌≢◌, length, slice_index};
+ghost use Rattle.minimize.specs.Steps.{none};
 ghost use Rattle.minimize.specs.Choosing.{Leaders, Choices, ToKept, factor_towards, goes_first};
 
+use crate::rows::NONE;
 use weights::Weight;
-
-// The leader of a label that has none.
-const NONE: u16 = 65535;
 
 // Whether a state goes before the leader that its label has so far.
 fn goes_first(kernel: &[u16], state: u16, leader: u16) -> bool
     requires state { state < length kernel.now }
-    requires leader { leader ≢ 65535 → leader < length kernel.now }
+    requires leader { leader ≢ none → leader < length kernel.now }
     ensures { result ≡ goes_first kernel.now state leader }
 {
     leader == NONE || (kernel[usize::from(state)] == 1 && kernel[usize::from(leader)] != 1)

@@ -1,5 +1,6 @@
 ghost use Rattle.std.specs.Prelude.{◌≡◌, ◌+◌, ◌*◌, ◌<◌, ◌≤◌, length, slice_index};
-ghost use Rattle.minimize.specs.Rows.{Laid, rows_table, laid_rows};
+ghost use Rattle.minimize.specs.Rows.{Laid, rows_table};
+ghost use Rattle.minimize.specs.Slices.{laid_rows};
 ghost use Rattle.minimize.specs.Steps.{Normal, Classes};
 ghost use Rattle.minimize.specs.Classing.{Refined, target_label};
 ghost use Rattle.minimize.specs.Filling.{Filled, FilledRow};

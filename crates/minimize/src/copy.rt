@@ -4,11 +4,9 @@ ghost use Rattle.minimize.specs.Rows.{Laid, rows_table};
 ghost use Rattle.minimize.specs.Steps.{none, Copied};
 ghost use Rattle.minimize.specs.Copy.{CopyRoom, Meets, Numbered, ArcsCopied, MarksCopied};
 
+use crate::rows::NONE;
 use tables::Source;
 use weights::Weight;
-
-// What a state without a number has in place of one.
-const NONE: u16 = 65535;
 
 // Copies the states of a source that can be reached, with their arcs, numbered breadth-first. The answer is how many they are.
 pub(crate) fn copy_reachable<W: Weight, S: Source<W>>(

@@ -1,7 +1,7 @@
 ghost use Rattle.std.specs.Prelude.{◌≡◌, ℕ, ◌+◌, ◌*◌, ◌<◌, ◌≤◌, length, slice_index};
 ghost use Rattle.tables.specs.Book.{laid, place};
 ghost use Rattle.tables.specs.Sheet.{mean_at};
-ghost use Rattle.theory.specs.Hyper.{kept_below};
+ghost use Rattle.theory.specs.Hyper.{count_below};
 ghost use Rattle.minimize.specs.Rows.{Laid, rows_table};
 ghost use Rattle.minimize.specs.Steps.{Gathered, leads, number};
 ghost use Rattle.minimize.specs.Gathering.{FirstNumbers, Labelled, Moved, Numbers, RowMoved};
@@ -14,7 +14,7 @@ fn number_classes(labels: &[u16], count: u16, numbers: &mut [u16]) -> u16
     requires label_room { count ≤ length labels.now }
     requires room { count ≤ length numbers.old }
     ensures numbers { FirstNumbers count (slice_index labels.now) (slice_index numbers.new) }
-    ensures classes { result ≡ kept_below (leads (slice_index labels.now)) count }
+    ensures classes { result ≡ count_below (leads (slice_index labels.now)) count }
 {
     let mut classes = 0;
     for state in 0..count {

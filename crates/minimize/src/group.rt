@@ -59,7 +59,8 @@ impl<W: Weight> Signatures<'_, W> {
     {
         let letters = usize::from(self.letters);
         let from = usize::from(row) * letters;
-        let key = u32::from(self.keys[usize::from(row)]);
+        // The key is mixed in before the labels, since it may be near to them: a state next to its target would cancel it.
+        let key = mix(0x811C_9DC5, self.keys[usize::from(row)]);
         let hash = self.labels[from..from + letters]
             .iter()
             .fold(key, |hash, label| mix(hash, *label));

@@ -4,11 +4,10 @@ ghost use Rattle.tables.specs.Book.{laid};
 ghost use Rattle.theory.specs.Runs.{Reachable};
 ghost use Rattle.theory.specs.Series.{Equivalent};
 ghost use Rattle.theory.specs.Least.{Least};
-ghost use Rattle.theory.specs.Hyper.{kept_below};
 ghost use Rattle.minimize.specs.Rows.{Laid, rows_table};
-ghost use Rattle.minimize.specs.Steps.{Marked};
-ghost use Rattle.minimize.specs.Steps.{has_mark};
-ghost use Rattle.minimize.specs.Compile.{says_kernel, Written};
+ghost use Rattle.minimize.specs.Watch.{Passed, hyper_steps};
+ghost use Rattle.minimize.specs.Steps.{Marked, has_mark};
+ghost use Rattle.minimize.specs.Marking.{Written};
 
 use crate::almost::find_almost;
 use crate::choose::choose;
@@ -16,6 +15,7 @@ use crate::kernel::{count_marked, find_co_kernel, find_kernel, write_marks};
 use crate::push::find_pushes;
 use crate::redirect::redirect;
 use crate::rows::Rows;
+use crate::watch::{Step, Watch};
 use weights::Weight;
 
 // How many states a hyper table has, and how many of the least table's states are kernel.
@@ -69,7 +69,7 @@ fn mark_states<W: Weight>(
 
 // Writes the hyper table of a least table and adds kernel and co-kernel states to the least table's marks. The slices of numbers and
 // of elements are for work.
-pub(crate) fn make_hyper<W: Weight>(
+pub(crate) fn make_hyper<W: Weight, T: Watch>(
     letters: u8,
     count: u16,
     targets: &[u16],
@@ -82,6 +82,7 @@ pub(crate) fn make_hyper<W: Weight>(
     factors: &mut [W],
     numbers: &mut [u16],
     elements: &mut [W],
+    watch: &mut T,
 ) -> HyperCounts
     requires laid { Laid W.kind (laid targets.now weights.now marks.old letters count) }
     requires reached { (q : ℕ) → q < count → Reachable (rows_table W.kind (laid targets.now weights.now marks.old letters count)) q }
@@ -96,8 +97,8 @@ pub(crate) fn make_hyper<W: Weight>(
     ensures laid { Laid W.kind (laid targets.now weights.now marks.new letters count) }
     ensures hyper_laid { Laid W.kind (laid hyper_targets.new hyper_weights.new hyper_marks.new letters result.states) }
     ensures written { (t : Table W.kind.group.Mean) → Least W.kind.group t (rows_table W.kind (laid targets.now weights.now marks.old letters count)) →
-        Written W.kind t (laid targets.now weights.now marks.new letters count) (laid hyper_targets.new hyper_weights.new hyper_marks.new letters result.states) representatives.new factors.new }
-    ensures kernel { result.kernel ≡ kept_below (λ q. says_kernel (slice_index marks.new q)) count }
+        Written W.kind t (laid targets.now weights.now marks.new letters count) (laid hyper_targets.new hyper_weights.new hyper_marks.new letters result.states) representatives.new factors.new result.kernel }
+    ensures watched { Passed T.told hyper_steps watch.old watch.new }
 {
     let states = usize::from(count);
     let (kernel, rest) = numbers.split_at_mut(states);
@@ -110,6 +111,7 @@ pub(crate) fn make_hyper<W: Weight>(
     mark_states(
         letters, count, targets, weights, marks, distances, bases, links, kernel, co_kernel,
     );
+    watch.done(Step::Kernel);
     let rows = Rows {
         targets,
         weights,
@@ -129,6 +131,7 @@ pub(crate) fn make_hyper<W: Weight>(
         labels,
         label_factors,
     );
+    watch.done(Step::Almost);
     choose(
         count,
         labels,
@@ -149,6 +152,7 @@ pub(crate) fn make_hyper<W: Weight>(
         hyper_weights,
         hyper_marks,
     );
+    watch.done(Step::Redirect);
     HyperCounts {
         states,
         kernel: count_marked(kernel, count),

@@ -1,22 +1,20 @@
 ghost use Rattle.std.specs.Prelude.{◌≡◌, ℕ, ◌+◌, ◌*◌, ◌%◌, ◌<◌, ◌≤◌, ◌==◌, cond, nat_lt, length, slice_index, Decides};
 ghost use Rattle.theory.specs.Runs.{Reachable};
 ghost use Rattle.theory.specs.Kernel.{Kernel, Preamble, CoKernel, CoPreamble};
-ghost use Rattle.theory.specs.Hyper.{kept_below};
-ghost use Rattle.minimize.specs.Rows.{Laid, rows_table, laid_rows};
-ghost use Rattle.minimize.specs.Steps.{none, Told};
-ghost use Rattle.minimize.specs.Steps.{has_mark};
+ghost use Rattle.theory.specs.Hyper.{count_below};
+ghost use Rattle.minimize.specs.Rows.{Laid, rows_table};
+ghost use Rattle.minimize.specs.Slices.{laid_rows};
+ghost use Rattle.minimize.specs.Compile.{Tells};
+ghost use Rattle.minimize.specs.Steps.{none, has_mark};
 ghost use Rattle.minimize.specs.Peeling.{Arc, Back, TellsDead, Held, Holding, Peeled, Added};
 
-use crate::rows::Rows;
+use crate::rows::{NONE, Rows};
 use weights::Weight;
-
-// The distance of a dead state.
-const NONE: u16 = 65535;
 
 // How many states are marked.
 pub(crate) fn count_marked(marks: &[u16], count: u16) -> u16
     requires { count ≤ length marks.now }
-    ensures { result ≡ kept_below (has_mark marks.now) count }
+    ensures { result ≡ count_below (has_mark marks.now) count }
 {
     let mut total = 0;
     for state in 0..count {
@@ -47,7 +45,7 @@ fn keep_held(marks: &mut [u16], held: &[u16], count: u16) -> bool
     requires held_room { count ≤ length held.now }
     ensures marks { (q : ℕ) → q < count → slice_index marks.new q ≡ cond (has_mark held.now q) (slice_index marks.old q) 0 }
     ensures length { length marks.new ≡ length marks.old }
-    ensures fewer { result ≡ nat_lt (kept_below (has_mark marks.new) count) (kept_below (has_mark marks.old) count) }
+    ensures fewer { result ≡ nat_lt (count_below (has_mark marks.new) count) (count_below (has_mark marks.old) count) }
 {
     let before = count_marked(marks, count);
     unmark(marks, held, count);
@@ -120,7 +118,7 @@ fn peel_kernel<W: Weight>(rows: Rows<'_, W>, kernel: &mut [u16], held: &mut [u16
     ensures peeled { Peeled rows.entry.count (Arc (rows_table W.kind (laid_rows rows.entry))) (has_mark kernel.old) (has_mark kernel.new) }
     ensures small { (q : ℕ) → q < rows.entry.count → slice_index kernel.new q ≤ slice_index kernel.old q }
     ensures length { (length kernel.new ≡ length kernel.old) × (length held.new ≡ length held.old) }
-    ensures fewer { result ≡ nat_lt (kept_below (has_mark kernel.new) rows.entry.count) (kept_below (has_mark kernel.old) rows.entry.count) }
+    ensures fewer { result ≡ nat_lt (count_below (has_mark kernel.new) rows.entry.count) (count_below (has_mark kernel.old) rows.entry.count) }
 {
     hold_targets(rows, kernel, held);
     keep_held(kernel, held, rows.count)
@@ -134,7 +132,7 @@ fn peel_co_kernel<W: Weight>(rows: Rows<'_, W>, co_kernel: &mut [u16], held: &mu
     ensures peeled { Peeled rows.entry.count (Back (rows_table W.kind (laid_rows rows.entry))) (has_mark co_kernel.old) (has_mark co_kernel.new) }
     ensures small { (q : ℕ) → q < rows.entry.count → slice_index co_kernel.new q ≤ slice_index co_kernel.old q }
     ensures length { (length co_kernel.new ≡ length co_kernel.old) × (length held.new ≡ length held.old) }
-    ensures fewer { result ≡ nat_lt (kept_below (has_mark co_kernel.new) rows.entry.count) (kept_below (has_mark co_kernel.old) rows.entry.count) }
+    ensures fewer { result ≡ nat_lt (count_below (has_mark co_kernel.new) rows.entry.count) (count_below (has_mark co_kernel.old) rows.entry.count) }
 {
     hold_sources(rows, co_kernel, held);
     keep_held(co_kernel, held, rows.count)
@@ -148,7 +146,7 @@ pub(crate) fn find_kernel<W: Weight>(rows: Rows<'_, W>, kernel: &mut [u16], held
     requires room { rows.count ≤ length kernel.old }
     requires held_room { rows.count ≤ length held.old }
     ensures told { (q : ℕ) → q < rows.entry.count →
-        Told (slice_index kernel.new q == 1) (Kernel (rows_table W.kind (laid_rows rows.entry)) q) (Preamble (rows_table W.kind (laid_rows rows.entry)) q) }
+        Tells (slice_index kernel.new q == 1) (Kernel (rows_table W.kind (laid_rows rows.entry)) q) (Preamble (rows_table W.kind (laid_rows rows.entry)) q) }
     ensures small { (q : ℕ) → q < rows.entry.count → slice_index kernel.new q ≤ 1 }
     ensures length { (length kernel.new ≡ length kernel.old) × (length held.new ≡ length held.old) }
 {
@@ -181,7 +179,7 @@ pub(crate) fn find_co_kernel<W: Weight>(
     requires room { rows.count ≤ length co_kernel.old }
     requires held_room { rows.count ≤ length held.old }
     ensures told { (q : ℕ) → q < rows.entry.count →
-        Told (slice_index co_kernel.new q == 1) (CoKernel (rows_table W.kind (laid_rows rows.entry)) q) (CoPreamble (rows_table W.kind (laid_rows rows.entry)) q) }
+        Tells (slice_index co_kernel.new q == 1) (CoKernel (rows_table W.kind (laid_rows rows.entry)) q) (CoPreamble (rows_table W.kind (laid_rows rows.entry)) q) }
     ensures small { (q : ℕ) → q < rows.entry.count → slice_index co_kernel.new q ≤ 1 }
     ensures length { (length co_kernel.new ≡ length co_kernel.old) × (length held.new ≡ length held.old) }
 {

@@ -3,13 +3,15 @@ ghost use Rattle.tables.specs.Book.{laid};
 ghost use Rattle.tables.specs.Sheet.{mean_at};
 ghost use Rattle.theory.specs.Least.{Least};
 ghost use Rattle.minimize.specs.Rows.{Laid, rows_table};
-ghost use Rattle.minimize.specs.Steps.{Pushes, Pushed, Normal, Classes, Gathered};
+ghost use Rattle.minimize.specs.Watch.{Passed, least_steps};
+ghost use Rattle.minimize.specs.Steps.{Pushes, PushedWeights, Normal, Classes, Gathered};
 
 use crate::classes::find_classes;
 use crate::copy::copy_reachable;
 use crate::gather::gather;
 use crate::push::{find_pushes, push_weights};
 use crate::rows::Rows;
+use crate::watch::{Step, Watch};
 use tables::Source;
 use weights::Weight;
 
@@ -27,7 +29,7 @@ fn push_table<W: Weight>(
     requires distance_room { count ≤ length distances.old }
     requires push_room { count ≤ length pushes.old }
     ensures pushes { Pushes W.kind.group (rows_table W.kind (laid targets.now weights.old marks.now letters count)) (slice_index distances.new) (mean_at W.kind pushes.new) }
-    ensures pushed { Pushed W.kind.group (rows_table W.kind (laid targets.now weights.old marks.now letters count)) (slice_index distances.new) (mean_at W.kind pushes.new)
+    ensures pushed { PushedWeights W.kind.group (rows_table W.kind (laid targets.now weights.old marks.now letters count)) (slice_index distances.new) (mean_at W.kind pushes.new)
         (rows_table W.kind (laid targets.now weights.new marks.now letters count)) }
     ensures laid { Laid W.kind (laid targets.now weights.new marks.now letters count) }
     ensures normal { Normal W.kind.group (rows_table W.kind (laid targets.now weights.new marks.now letters count)) (slice_index distances.new) }
@@ -93,7 +95,7 @@ fn gather_classes<W: Weight>(
 }
 
 // Writes the least table of a source. The answer is how many states it has. The other slices are for work.
-pub(crate) fn make_least<W: Weight, S: Source<W>>(
+pub(crate) fn make_least<W: Weight, S: Source<W>, T: Watch>(
     source: &S,
     targets: &mut [u16],
     weights: &mut [W],
@@ -102,6 +104,7 @@ pub(crate) fn make_least<W: Weight, S: Source<W>>(
     row_elements: &mut [W],
     numbers: &mut [u16],
     elements: &mut [W],
+    watch: &mut T,
 ) -> u16
     requires target_room { 1 + (S.table source.now W.kind).states * (S.table source.now W.kind).letters ≤ length targets.old }
     requires weight_room { 1 + (S.table source.now W.kind).states * (S.table source.now W.kind).letters ≤ length weights.old }
@@ -113,6 +116,7 @@ pub(crate) fn make_least<W: Weight, S: Source<W>>(
     ensures few { result ≤ (S.table source.now W.kind).states }
     ensures laid { Laid W.kind (laid targets.new weights.new marks.new (S.table source.now W.kind).letters result) }
     ensures least { Least W.kind.group (S.table source.now W.kind) (rows_table W.kind (laid targets.new weights.new marks.new (S.table source.now W.kind).letters result)) }
+    ensures watched { Passed T.told least_steps watch.old watch.new }
 {
     let states = usize::from(source.states());
     let letters = source.letters();
@@ -123,8 +127,10 @@ pub(crate) fn make_least<W: Weight, S: Source<W>>(
     let (links, rest) = rest.split_at_mut(states);
     let (keys, labels) = rest.split_at_mut(states);
     let count = copy_reachable(source, targets, weights, marks, copies, order);
+    watch.done(Step::Copy);
     push_table(letters, count, targets, weights, marks, distances, elements);
-    gather_classes(
+    watch.done(Step::Push);
+    let least = gather_classes(
         letters,
         count,
         targets,
@@ -137,5 +143,7 @@ pub(crate) fn make_least<W: Weight, S: Source<W>>(
         links,
         keys,
         labels,
-    )
+    );
+    watch.done(Step::Classes);
+    least
 }

@@ -3,13 +3,21 @@
 mod almost;
 mod choose;
 mod classes;
-mod compile;
+mod compiler;
 mod copy;
 mod gather;
 mod group;
 mod hyper;
 mod kernel;
 mod least;
+mod memories;
 mod push;
 mod redirect;
 mod rows;
+mod watch;
+mod whole;
+
+pub use compiler::{Report, compile};
+pub use memories::{StateMemory, TableMemory, WorkMemory};
+pub use watch::{Step, Unwatched, Watch, compile_watched};
+pub use whole::draw_and_compile;

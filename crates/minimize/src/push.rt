@@ -1,15 +1,13 @@
 ghost use Rattle.std.specs.Prelude.{◌≡◌, ℕ, ◌+◌, ◌-◌, ◌*◌, ◌<◌, ◌≤◌, List, length, slice_index, false, cond};
 ghost use Rattle.tables.specs.Book.{laid, place};
 ghost use Rattle.tables.specs.Sheet.{mean_at};
-ghost use Rattle.minimize.specs.Rows.{Laid, rows_table, laid_rows};
-ghost use Rattle.minimize.specs.Steps.{none, Pushes, Pushed};
+ghost use Rattle.minimize.specs.Rows.{Laid, rows_table};
+ghost use Rattle.minimize.specs.Slices.{laid_rows};
+ghost use Rattle.minimize.specs.Steps.{none, Pushes, PushedWeights};
 ghost use Rattle.minimize.specs.Pushing.{FirstLetter, Known, Rounding, Rounded, Fresh, PushedBelow, pushed_arc, pushed_start};
 
-use crate::rows::Rows;
+use crate::rows::{NONE, Rows};
 use weights::Weight;
-
-// The distance of a state from which no accepted word has been found.
-const UNMET: u16 = u16::MAX;
 
 // The first letter, rising, by which a state leads to a state of that distance.
 fn first_letter<W: Weight>(
@@ -49,7 +47,7 @@ fn settle<W: Weight>(
     ensures known { Rounding W.kind.group (rows_table W.kind (laid_rows rows.entry)) distance (state + 1) (slice_index distances.new) (mean_at W.kind pushes.new) }
     ensures stale { result ≡ false → slice_index distances.new ≡ slice_index distances.old }
 {
-    if distances[usize::from(state)] != UNMET {
+    if distances[usize::from(state)] != NONE {
         return false;
     }
     match first_letter(rows, distances, state, distance - 1) {
@@ -95,7 +93,7 @@ fn first_distance<W: Weight>(rows: Rows<'_, W>, state: u16) -> u16
     requires inside { state < rows.count }
     ensures { result ≡ cond ((rows_table W.kind (laid_rows rows.entry)).final state) 0 none }
 {
-    if rows.is_final(state) { 0 } else { UNMET }
+    if rows.is_final(state) { 0 } else { NONE }
 }
 
 // Gives final states distance 0, the others none, and all of them push one.
@@ -112,7 +110,7 @@ fn begin<W: Weight>(rows: Rows<'_, W>, distances: &mut [u16], pushes: &mut [W])
 }
 
 // The length of the smallest word that is accepted from each state, and the push of the state, the weight of that word. A dead state
-// has distance 65535 and push one.
+// has no distance, and push one.
 pub(crate) fn find_pushes<W: Weight>(rows: Rows<'_, W>, distances: &mut [u16], pushes: &mut [W])
     requires laid { Laid W.kind (laid_rows rows) }
     requires distances { rows.count ≤ length distances.old }
@@ -130,18 +128,17 @@ pub(crate) fn find_pushes<W: Weight>(rows: Rows<'_, W>, distances: &mut [u16], p
     }
 }
 
-// What an arc from a state weighs once it is pushed.
-fn pushed_arc<W: Weight>(weight: W, state: usize, target: u16, distances: &[u16], pushes: &[W]) -> W
-    requires state { state < length pushes.now }
+// What an arc weighs once it is pushed, where the inverse of its own state's push is given.
+fn pushed_arc<W: Weight>(inverse: W, weight: W, target: u16, distances: &[u16], pushes: &[W]) -> W
     requires distance { target < length distances.now }
     requires push { target < length pushes.now }
-    ensures { W.kind.mean result ≡ pushed_arc W.kind.group (slice_index distances.now) (mean_at W.kind pushes.now) state (W.kind.mean weight) target }
+    ensures { W.kind.mean result ≡ pushed_arc W.kind.group (slice_index distances.now) (mean_at W.kind pushes.now) (W.kind.mean inverse) (W.kind.mean weight) target }
 {
     let target = usize::from(target);
-    if distances[target] == UNMET {
+    if distances[target] == NONE {
         W::one()
     } else {
-        pushes[state].inverse().times(weight.times(pushes[target]))
+        inverse.times(weight.times(pushes[target]))
     }
 }
 
@@ -152,10 +149,37 @@ fn pushed_start<W: Weight>(weight: W, target: u16, distances: &[u16], pushes: &[
     ensures { W.kind.mean result ≡ pushed_start W.kind.group (slice_index distances.now) (mean_at W.kind pushes.now) (W.kind.mean weight) target }
 {
     let target = usize::from(target);
-    if distances[target] == UNMET {
+    if distances[target] == NONE {
         W::one()
     } else {
         weight.times(pushes[target])
+    }
+}
+
+// Pushes the arcs of a state. Its push is inverted once, not for each arc: an inverse may cost many products.
+fn push_row<W: Weight>(
+    targets: &[u16],
+    weights: &mut [W],
+    letters: u8,
+    state: u16,
+    distances: &[u16],
+    pushes: &[W],
+)
+    requires targets { place letters state letters ≤ length targets.now }
+    requires weights { place letters state letters ≤ length weights.old }
+    requires inside { state < length pushes.now }
+    requires distances { (a : ℕ) → a < letters → slice_index targets.now (place letters state a) < length distances.now }
+    requires pushes { (a : ℕ) → a < letters → slice_index targets.now (place letters state a) < length pushes.now }
+    ensures pushed { (all : List W) →
+        PushedBelow W.kind letters (slice_index distances.now) (mean_at W.kind pushes.now) targets.now all weights.old (state * letters) →
+        PushedBelow W.kind letters (slice_index distances.now) (mean_at W.kind pushes.now) targets.now all weights.new ((state + 1) * letters) }
+    ensures kept { length weights.new ≡ length weights.old }
+{
+    let inverse = pushes[usize::from(state)].inverse();
+    let from = 1 + usize::from(state) * usize::from(letters);
+    for letter in 0..letters {
+        let at = from + usize::from(letter);
+        weights[at] = pushed_arc(inverse, weights[at], targets[at], distances, pushes);
     }
 }
 
@@ -176,14 +200,12 @@ pub(crate) fn push_weights<W: Weight>(
     requires start_inside { slice_index targets.now 0 < count }
     requires target_inside { (q a : ℕ) → q < count → a < letters → slice_index targets.now (place letters q a) < count }
     ensures pushed { (ms : List ℕ) →
-        Pushed W.kind.group (rows_table W.kind (laid targets.now weights.old ms letters count)) (slice_index distances.now) (mean_at W.kind pushes.now)
+        PushedWeights W.kind.group (rows_table W.kind (laid targets.now weights.old ms letters count)) (slice_index distances.now) (mean_at W.kind pushes.now)
         (rows_table W.kind (laid targets.now weights.new ms letters count)) }
     ensures kept { length weights.new ≡ length weights.old }
 {
-    let width = usize::from(letters);
-    for arc in 0..usize::from(count) * width {
-        let at = 1 + arc;
-        weights[at] = pushed_arc(weights[at], arc / width, targets[at], distances, pushes);
+    for state in 0..count {
+        push_row(targets, weights, letters, state, distances, pushes);
     }
     weights[0] = pushed_start(weights[0], targets[0], distances, pushes);
 }

@@ -1,8 +1,9 @@
 ghost use Rattle.std.specs.Prelude.{◌≡◌, ℕ, ◌+◌, ◌*◌, ◌<◌, ◌≤◌, true, length, slice_index};
 ghost use Rattle.tables.specs.Book.{laid, place};
 ghost use Rattle.tables.specs.Sheet.{mean_at};
-ghost use Rattle.theory.specs.Hyper.{kept_below};
-ghost use Rattle.minimize.specs.Rows.{Laid, rows_table, laid_rows};
+ghost use Rattle.theory.specs.Hyper.{count_below};
+ghost use Rattle.minimize.specs.Rows.{Laid, rows_table};
+ghost use Rattle.minimize.specs.Slices.{laid_rows};
 ghost use Rattle.minimize.specs.Choosing.{is_kept, ToKept, Redirected};
 ghost use Rattle.minimize.specs.Redirecting.{kept_of, number_in, moved_to, weighed_to, given, Ready, RowTo, RowsTo};
 
@@ -23,8 +24,8 @@ fn number_kept(count: u16, kernel: &[u16], representatives: &[u16], numbers: &mu
     requires kernel_room { count ≤ length kernel.now }
     requires representatives_room { count ≤ length representatives.now }
     requires numbers_room { count ≤ length numbers.old }
-    ensures count { result ≡ kept_below (is_kept kernel.now representatives.now) count }
-    ensures numbers { (q : ℕ) → q < count → slice_index numbers.new q ≡ kept_below (is_kept kernel.now representatives.now) q }
+    ensures count { result ≡ count_below (is_kept kernel.now representatives.now) count }
+    ensures numbers { (q : ℕ) → q < count → slice_index numbers.new q ≡ count_below (is_kept kernel.now representatives.now) q }
 {
     let mut kept = 0;
     for state in 0..count {
@@ -157,10 +158,10 @@ pub(crate) fn redirect<W: Weight>(
     requires weight_room { 1 + rows.count * rows.letters ≤ length weights.old }
     requires mark_room { rows.count ≤ length marks.old }
     requires to_kept { ToKept rows.count kernel.now representatives.now }
-    ensures count { result ≡ kept_below (is_kept kernel.now representatives.now) rows.entry.count }
+    ensures count { result ≡ count_below (is_kept kernel.now representatives.now) rows.entry.count }
     ensures laid { Laid W.kind (laid targets.new weights.new marks.new rows.entry.letters result) }
     ensures table { Redirected W.kind.group (rows_table W.kind (laid_rows rows.entry)) (rows_table W.kind (laid targets.new weights.new marks.new rows.entry.letters result)) (is_kept kernel.now representatives.now) (slice_index representatives.now) (mean_at W.kind factors.now) }
-    ensures marks { (q : ℕ) → q < rows.entry.count → is_kept kernel.now representatives.now q ≡ true → slice_index marks.new (kept_below (is_kept kernel.now representatives.now) q) ≡ slice_index rows.entry.marks.now q }
+    ensures marks { (q : ℕ) → q < rows.entry.count → is_kept kernel.now representatives.now q ≡ true → slice_index marks.new (count_below (is_kept kernel.now representatives.now) q) ≡ slice_index rows.entry.marks.now q }
 {
     let kept = number_kept(rows.count, kernel, representatives, numbers);
     let redirection = Redirection {

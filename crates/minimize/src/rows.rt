@@ -1,8 +1,12 @@
 ghost use Rattle.std.specs.Prelude.{◌≡◌, ◌<◌};
 ghost use Rattle.tables.specs.Book.{place};
-ghost use Rattle.minimize.specs.Rows.{Laid, rows_table, laid_rows};
+ghost use Rattle.minimize.specs.Rows.{Laid, rows_table};
+ghost use Rattle.minimize.specs.Slices.{laid_rows};
 
 use weights::Weight;
+
+// In place of a number, a distance, a label or a leader: none.
+pub(crate) const NONE: u16 = 65535;
 
 // A table that lies in three slices in the layout of a book, without an off state: all of its arcs lead to states of its own.
 #[derive(Clone, Copy)]

@@ -1,6 +1,7 @@
 use Rattle.std.proofs.Common.{◌≤◌, slice_index, arith}
 use Rattle.tables.specs.Sheet.{mean_at}
-use Rattle.minimize.specs.Rows.{rows_table, laid_rows}
+use Rattle.minimize.specs.Rows.{rows_table}
+use Rattle.minimize.specs.Slices.{laid_rows}
 use Rattle.minimize.specs.Steps.{has_mark}
 use Rattle.minimize.proofs.AlmostClasses.{begun_settled, begun_count, regrouped_settled, regrouped_fewer, almost_classes}
 use Rattle.minimize.proofs.almost.find_almost.Goals as goal

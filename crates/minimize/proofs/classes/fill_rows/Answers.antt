@@ -1,4 +1,5 @@
-use Rattle.minimize.specs.Rows.{rows_table, laid_rows}
+use Rattle.minimize.specs.Rows.{rows_table}
+use Rattle.minimize.specs.Slices.{laid_rows}
 use Rattle.minimize.specs.Classing.{target_label}
 use Rattle.minimize.proofs.Filling.{filled_row_more}
 use Rattle.minimize.proofs.classes.fill_rows.Goals as goal

@@ -1,5 +1,6 @@
 use Rattle.std.proofs.Common.{◌-◌, slice_index}
-use Rattle.minimize.specs.Rows.{rows_table, laid_rows}
+use Rattle.minimize.specs.Rows.{rows_table}
+use Rattle.minimize.specs.Slices.{laid_rows}
 use Rattle.minimize.proofs.Classing.{Labelled}
 use Rattle.minimize.proofs.classes.find_classes.Given as goal
 

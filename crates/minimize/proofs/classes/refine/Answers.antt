@@ -1,5 +1,6 @@
 use Rattle.std.proofs.Common.{◌++◌, drop, slice_index, arith}
-use Rattle.minimize.specs.Rows.{rows_table, laid_rows}
+use Rattle.minimize.specs.Rows.{rows_table}
+use Rattle.minimize.specs.Slices.{laid_rows}
 use Rattle.minimize.proofs.Classing.{copied_below, grouped_refined}
 use Rattle.minimize.proofs.classes.refine.Goals as goal
 

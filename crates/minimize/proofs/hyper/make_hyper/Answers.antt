@@ -1,8 +1,8 @@
-use Rattle.std.proofs.Common.{ℕ, ◌%◌, ◌==◌, ◌∙◌, slice_index}
+use Rattle.std.proofs.Common.{ℕ, ◌%◌, ◌==◌, slice_index}
 use Rattle.tables.specs.Book.{laid}
 use Rattle.minimize.specs.Rows.{rows_table}
 use Rattle.minimize.proofs.Remarking.{remarked_equivalent, remarked_least}
-use Rattle.minimize.proofs.Compiling.{written, kernel_counted}
+use Rattle.minimize.proofs.Compiling.{written}
 use Rattle.minimize.proofs.hyper.make_hyper.Goals as goal
 
 pub find_almost-requires-clause-apart : goal.find_almost-requires-clause-apart
@@ -26,14 +26,7 @@ returns-clause-written g c =
     λ t least.
     written K t (laid a.targets.now a.weights.now marked.new.marks a.letters a.count)
     (laid made.new.targets made.new.weights made.new.marks a.letters made.result) a.marks.now marked.new.kernel marked.new.co_kernel
-    c.find_almost.new.labels c.choose.new.representatives c.find_almost.new.factors c.choose.new.chosen
+    c.find_almost.new.labels c.choose.new.representatives c.find_almost.new.factors c.choose.new.chosen c.count_marked.result
     (remarked_least K.group t old f marked.ensures.finality least) marked.ensures.marked marked.ensures.marks
     marked.ensures.kernel_small marked.ensures.co_kernel_small c.find_almost.ensures.almost c.choose.ensures.choices
-    made.ensures.table made.ensures.marks
-
-pub returns-clause-kernel : goal.returns-clause-kernel
-returns-clause-kernel g c =
-    let marked = c.mark_states in
-    c.count_marked.ensures
-    ∙ kernel_counted c.args.count c.args.marks.now marked.new.marks marked.new.kernel marked.new.co_kernel marked.ensures.marks
-    marked.ensures.kernel_small marked.ensures.co_kernel_small
+    made.ensures.table made.ensures.marks c.count_marked.ensures

@@ -1,5 +1,6 @@
 use Rattle.std.proofs.Common.{arith}
-use Rattle.minimize.specs.Rows.{rows_table, laid_rows}
+use Rattle.minimize.specs.Rows.{rows_table}
+use Rattle.minimize.specs.Slices.{laid_rows}
 use Rattle.minimize.specs.Steps.{has_mark}
 use Rattle.minimize.proofs.Peeling.{peeling_more, co_kernel_told, accepted}
 use Rattle.minimize.proofs.kernel.find_co_kernel.Goals as goal

@@ -1,5 +1,6 @@
 use Rattle.std.proofs.Common.{length, arith}
-use Rattle.minimize.specs.Rows.{rows_table, laid_rows}
+use Rattle.minimize.specs.Rows.{rows_table}
+use Rattle.minimize.specs.Slices.{laid_rows}
 use Rattle.minimize.specs.Steps.{has_mark}
 use Rattle.minimize.proofs.Peeling.{peeling_more, kernel_first, kernel_told, leading}
 use Rattle.minimize.proofs.kernel.find_kernel.Goals as goal

@@ -1,4 +1,5 @@
-use Rattle.minimize.specs.Rows.{rows_table, laid_rows}
+use Rattle.minimize.specs.Rows.{rows_table}
+use Rattle.minimize.specs.Slices.{laid_rows}
 use Rattle.minimize.specs.Steps.{has_mark}
 use Rattle.minimize.specs.Peeling.{ArcBelow, Added}
 use Rattle.minimize.proofs.kernel.hold_row.Given as goal

@@ -16,11 +16,11 @@ returns-clause-least g c =
     let n = c.copy_reachable-count.result in
     let copy = c.copy_reachable-count.new in
     let pushed = c.push_table.new in
-    let made = c.gather_classes.new in
-    let m = c.gather_classes.result in
+    let made = c.gather_classes-least.new in
+    let m = c.gather_classes-least.result in
     let copied = subst (λ x. Copied K.group t (rows_table K (laid copy.targets copy.weights copy.marks x n))) (sym letters) c.copy_reachable-count.ensures.copied in
     subst (λ x. Least K.group t (rows_table K (laid made.targets made.weights made.marks x m))) letters
     (least_table K.group t (rows_table K (laid copy.targets copy.weights copy.marks s n))
     (rows_table K (laid copy.targets pushed.weights copy.marks s n)) (rows_table K (laid made.targets made.weights made.marks s m))
     (slice_index pushed.distances) (mean_at K pushed.pushes) (slice_index made.labels) (g.S.Source.lawful c.args.source.now K) copied
-    c.push_table.ensures.pushes c.push_table.ensures.pushed c.gather_classes.ensures.classes c.gather_classes.ensures.gathered)
+    c.push_table.ensures.pushes c.push_table.ensures.pushed c.gather_classes-least.ensures.classes c.gather_classes-least.ensures.gathered)

@@ -1,6 +1,7 @@
 use Rattle.std.proofs.Common.{◌≡◌, slice_index, subst, arith}
 use Rattle.tables.specs.Sheet.{mean_at}
-use Rattle.minimize.specs.Rows.{rows_table, laid_rows}
+use Rattle.minimize.specs.Rows.{rows_table}
+use Rattle.minimize.specs.Slices.{laid_rows}
 use Rattle.minimize.specs.Pushing.{Rounded}
 use Rattle.minimize.proofs.Pushing.{stale_round, all_rounds}
 use Rattle.minimize.proofs.push.find_pushes.Goals as goal

@@ -1,6 +1,7 @@
 use Rattle.std.proofs.Common.{◌≡◌, slice_index, sym, ap, ◌∙◌, arith}
 use Rattle.tables.specs.Sheet.{mean_at}
-use Rattle.minimize.specs.Rows.{rows_table, laid_rows}
+use Rattle.minimize.specs.Rows.{rows_table}
+use Rattle.minimize.specs.Slices.{laid_rows}
 use Rattle.minimize.specs.Steps.{none}
 use Rattle.minimize.proofs.Memory.{mean_read}
 use Rattle.minimize.proofs.Pushing.{settled, unsettled}
