@@ -1,3 +1,6 @@
 pub mod Digits
+pub mod FileTexts
+pub mod HyperAlike
 pub mod Lines
+pub mod OneText
 pub mod Putting

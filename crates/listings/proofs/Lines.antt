@@ -5,7 +5,7 @@ use Rattle.std.proofs.lemmas.List.{flat_map_more}
 use Rattle.listings.specs.Text.{Put}
 use Rattle.listings.proofs.Putting.{put_more}
 
-range_more : (a n : ℕ) → range_with_len a (suc n) ≡ range_with_len a n ++ ((a + n) ∷ [])
+pub range_more : (a n : ℕ) → range_with_len a (suc n) ≡ range_with_len a n ++ ((a + n) ∷ [])
 range_more a zero = ap (λ j. j ∷ []) (sym (add-zero a))
 range_more a (suc n) =
     ap (λ xs. a ∷ xs)

@@ -1,7 +1,8 @@
 -- Text put into a memory piece by piece. Assumes nothing.
-use Rattle.std.proofs.Common.{◌≡◌, ℕ, ◌+◌, ◌≤◌, List, ◌++◌, length, take, drop, sym, ap, ◌∙◌, arith, zero-add, append_assoc, length-append, length-drop}
+use Rattle.std.proofs.Common.{◌≡◌, ℕ, ◌+◌, List, ◌++◌, length, take, drop, sym, ap, ◌∙◌, arith, zero-add, append_assoc, length-append, length-drop}
 use Rattle.std.proofs.lemmas.List.{drop-drop, take_at, drop_at, length-take-le}
-use Rattle.listings.specs.Text.{over, Put}
+use Rattle.drafts.specs.Written.{over}
+use Rattle.listings.specs.Text.{Put}
 
 -- the memory keeps its length
 pub length_put : {text : List ℕ} {at : ℕ} {before after : List ℕ} {next : ℕ} → Put text at before after next → length after ≡ length before

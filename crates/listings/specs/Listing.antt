@@ -14,7 +14,7 @@ field word n = word ++ decimal n
 abbrev pub line : List ℕ → ℕ → List ℕ
 line word n = field word n ++ codes "\n"
 
--- the lines of the counts
+-- the lines of the counts: the states of the least and of the hyper table, the kernel states, and the agreement length
 abbrev pub counts_text : (least hyper kernel agree : ℕ) → List ℕ
 counts_text m h k a = line (codes "least ") m ++ (line (codes "hyper ") h ++ (line (codes "kernel ") k ++ line (codes "agree ") a))
 

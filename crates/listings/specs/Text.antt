@@ -5,10 +5,6 @@ use Rattle.std.specs.Prelude.{◌≡◌, ℕ, ◌+◌, ◌≤◌, List, ◌++◌
 abbrev pub placed : ℕ → List ℕ → List ℕ → List ℕ
 placed at text memory = take at memory ++ (text ++ drop (at + length text) memory)
 
--- text over the front of a memory
-abbrev pub over : List ℕ → List ℕ → List ℕ
-over text memory = text ++ drop (length text) memory
-
 -- text is put into a memory from place at on: it fits, nothing else changes, and the place after it is next
 pub record Put (text : List ℕ) (at : ℕ) (before after : List ℕ) (next : ℕ) : Type 0 where
   pub fits : at + length text ≤ length before

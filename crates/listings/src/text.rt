@@ -14,7 +14,7 @@ pub(crate) fn put(text: &[u8], at: usize, out: &mut [u8]) -> usize
 }
 
 // Puts a number in its fewest digits.
-fn put_number(number: u16, at: usize, out: &mut [u8]) -> usize
+pub(crate) fn put_number(number: usize, at: usize, out: &mut [u8]) -> usize
     requires { at + length (decimal number) ≤ length out.old }
     ensures { Put (decimal number) at out.old out.new result }
 {
@@ -34,7 +34,7 @@ pub(crate) fn put_field(word: &[u8], number: u16, at: usize, out: &mut [u8]) -> 
     ensures few { result ≤ at + length word.now + 5 }
 {
     let next = put(word, at, out);
-    put_number(number, next, out)
+    put_number(usize::from(number), next, out)
 }
 
 // Puts a line of a word and a number.

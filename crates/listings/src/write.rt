@@ -1,12 +1,14 @@
 ghost use Rattle.std.specs.Prelude.{◌≡◌, ◌+◌, ◌*◌, ◌<◌, ◌≤◌, length};
-ghost use Rattle.weights.specs.Codes.{code_for};
 ghost use Rattle.tables.specs.Book.{laid};
+ghost use Rattle.drafts.specs.Written.{over};
 ghost use Rattle.minimize.specs.Rows.{rows_table};
-ghost use Rattle.listings.specs.Text.{over, Put};
+ghost use Rattle.listings.specs.Text.{Put};
 ghost use Rattle.listings.specs.Rows.{Listable, laid_rows};
 ghost use Rattle.listings.specs.Listing.{counts_text, start_text, state_line, states_text, arc_line, arc_text, arcs_text, listing_text};
 
 use crate::text::{put, put_field, put_line};
+use drafts::code_of;
+use minimize::Report;
 use weights::Coded;
 
 // A table that lies in three slices in the layout of a book.
@@ -17,13 +19,6 @@ struct Rows<'a, W> {
     marks: &'a [u8],
     letters: u8,
     states: u16,
-}
-
-// The code of an element, which is the code of its meaning.
-fn code_of<W: Coded>(weight: W) -> u16
-    ensures { result ≡ code_for W.kind W.codes (W.kind.mean weight) }
-{
-    weight.code()
 }
 
 // Puts the lines of the counts.
@@ -130,20 +125,17 @@ fn put_arcs<W: Coded>(rows: &Rows<'_, W>, at: usize, out: &mut [u8]) -> usize
 // Writes the listing of a hyper table over the front of a memory: its counts, its start, its states in order and its arcs by state
 // and letter. The answer is the length of the listing.
 pub(crate) fn write_listing<W: Coded>(
-    least: u16,
-    hyper: u16,
-    kernel: u16,
-    agree: u16,
+    report: Report,
     letters: u8,
     targets: &[u16],
     weights: &[W],
     marks: &[u8],
     out: &mut [u8],
 ) -> usize
-    requires listable { Listable (laid targets.now weights.now marks.now letters hyper) }
+    requires listable { Listable (laid targets.now weights.now marks.now letters report.hyper) }
     requires room { 32768 ≤ length out.old }
-    ensures length { result ≡ length (listing_text W.kind W.codes (rows_table W.kind (laid targets.now weights.now marks.now letters hyper)) least hyper kernel agree) }
-    ensures bytes { out.new ≡ over (listing_text W.kind W.codes (rows_table W.kind (laid targets.now weights.now marks.now letters hyper)) least hyper kernel agree) out.old }
+    ensures length { result ≡ length (listing_text W.kind W.codes (rows_table W.kind (laid targets.now weights.now marks.now letters report.hyper)) report.least report.hyper report.kernel report.agreement) }
+    ensures bytes { out.new ≡ over (listing_text W.kind W.codes (rows_table W.kind (laid targets.now weights.now marks.now letters report.hyper)) report.least report.hyper report.kernel report.agreement) out.old }
     ensures fits { result ≤ 32768 }
 {
     let rows = Rows {
@@ -151,9 +143,16 @@ pub(crate) fn write_listing<W: Coded>(
         weights,
         marks,
         letters,
-        states: hyper,
+        states: report.hyper,
     };
-    let next = put_counts(least, hyper, kernel, agree, 0, out);
+    let next = put_counts(
+        report.least,
+        report.hyper,
+        report.kernel,
+        report.agreement,
+        0,
+        out,
+    );
     let next = put_start(&rows, next, out);
     let next = put_states(&rows, next, out);
     put_arcs(&rows, next, out)

@@ -15,6 +15,6 @@ returns-clause-put g c =
     let start = slice_index c.args.rows.now.targets.now 0 in
     let some : 0 < length ws = omega arith in
     let code : c.code_of-code.result ≡ code_for K k (mean_at K ws 0) =
-    c.code_of-code.ensures ∙ ap (code_for K k) (sym (get_or-map K.mean ws 0 c.index-rows-0.result K.group.one some)) in
+    c.code_of-code.ensures.code ∙ ap (code_for K k) (sym (get_or-map K.mean ws 0 c.index-rows-0.result K.group.one some)) in
     subst (λ n. Put (start_line start n) c.args.at c.args.out.now c.put_line.new.out c.put_line.result) code
     (put_more c.put_field-next.ensures.put c.put_line.ensures.put)
