@@ -23,9 +23,3 @@ arcs_1 P x q a l m = below_1 (λ q. P q a) (below_1 (P 0) x a m) q l
 
 pub arcs_2 : (P : ℕ → ℕ → Type 0) → P 0 0 → P 1 0 → (q a : ℕ) → q < 2 → a < 1 → P q a
 arcs_2 P x y q a l m = below_2 (λ q. P q a) (below_1 (P 0) x a m) (below_1 (P 1) y a m) q l
-
-pub arcs_4 :
-    (P : ℕ → ℕ → Type 0) → P 0 0 → P 0 1 → P 1 0 → P 1 1 → P 2 0 → P 2 1 → P 3 0 → P 3 1 →
-    (q a : ℕ) → q < 4 → a < 2 → P q a
-arcs_4 P x x' y y' z z' w w' q a l m =
-    below_4 (λ q. P q a) (below_2 (P 0) x x' a m) (below_2 (P 1) y y' a m) (below_2 (P 2) z z' a m) (below_2 (P 3) w w' a m) q l

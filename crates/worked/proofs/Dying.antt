@@ -6,7 +6,7 @@ use Rattle.weights.specs.Group.{Group}
 use Rattle.weights.proofs.Groups.{one_right}
 use Rattle.tables.specs.Table.{Table, Word, scaled, weight_from}
 use Rattle.theory.specs.Kernel.{Kernel, Preamble}
-use Rattle.theory.specs.Hyper.{Hyper, kept_below}
+use Rattle.theory.specs.Hyper.{Hyper, count_below}
 use Rattle.theory.specs.Series.{AlmostBy}
 use Rattle.theory.proofs.Basics.{walked, weight_walked}
 use Rattle.theory.proofs.Search.{kernel_not_preamble}
@@ -21,8 +21,8 @@ pub record Dying (G : Group) (t h : Table G.Mean) (s n : ℕ) : Type 0 where
   pub fast : holds_fast t s ≡ true
   pub few : all_below (sinks t s n) t.states ≡ true
   pub off : t.final s ≡ false
-  pub before : kept_below (λ q. eqb q s) s ≡ 0
-  pub states : h.states ≡ kept_below (λ q. eqb q s) t.states
+  pub before : count_below (λ q. eqb q s) s ≡ 0
+  pub states : h.states ≡ count_below (λ q. eqb q s) t.states
   pub letters : h.letters ≡ t.letters
   pub final : h.final 0 ≡ false
   pub target : (a : ℕ) → a < t.letters → h.target 0 a ≡ 0
@@ -54,9 +54,9 @@ module _ (G : Group) (t h : Table G.Mean) (s n : ℕ) (x : Dying G t h s n) wher
   others q other = other_preamble t s x.fast n (falls t.start x.start_inside) q other
 
   -- and so each state becomes it, and no weight changes
-  becomes : (q : ℕ) → kept_below (λ q. eqb q s) (cond (eqb q s) q s) ≡ 0
+  becomes : (q : ℕ) → count_below (λ q. eqb q s) (cond (eqb q s) q s) ≡ 0
   becomes q =
-      ap (kept_below (λ q. eqb q s))
+      ap (count_below (λ q. eqb q s))
       (elim (cases_Bool (eqb q s)) [
         | inl e ↦ ap (λ b. cond b q s) e ∙ eqb-true q s e
         | inr e ↦ ap (λ b. cond b q s) e
@@ -105,5 +105,5 @@ module _ (G : Group) (t h : Table G.Mean) (s n : ℕ) (x : Dying G t h s n) wher
         start_weight = x.start_weight ∙ sym (stays_same (eqb t.start s) t.start_weight);
       }
     where
-      number : (q : ℕ) → eqb q s ≡ true → kept_below (λ q. eqb q s) q ≡ 0
-      number q k = ap (kept_below (λ q. eqb q s)) (eqb-true q s k) ∙ x.before
+      number : (q : ℕ) → eqb q s ≡ true → count_below (λ q. eqb q s) q ≡ 0
+      number q k = ap (count_below (λ q. eqb q s)) (eqb-true q s k) ∙ x.before

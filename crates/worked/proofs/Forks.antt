@@ -1,17 +1,20 @@
--- Drafts 3 and 4 are correct. Assumes nothing.
-use Rattle.std.proofs.Common.{◌≡◌, ℕ, ◌%◌, refl, arith}
-use Rattle.weights.specs.Check.{Residue, residue_of, units_257, check_kind}
+-- The merging and the keeping draft are correct. Assumes nothing.
+use Rattle.std.proofs.Common.{◌≡◌, ℕ, ◌<◌, true, eqb, [], ◌∷◌, refl, arith}
+use Rattle.std.proofs.lemmas.Bool.{eqb-true}
+use Rattle.weights.specs.Numbers.{chosen_path}
+use Rattle.weights.specs.Check.{Residue, units_257, check_kind}
 use Rattle.tables.specs.Sketch.{blank, sketch_of, sketch_table}
 use Rattle.tables.specs.Table.{Table, Lawful}
-use Rattle.theory.specs.Examples.{fork}
-use Rattle.theory.specs.Runs.{Closed}
-use Rattle.theory.proofs.Tests.{all_below, all_both, is_closed, closed_there}
+use Rattle.theory.specs.Examples.{fork, fork_least}
+use Rattle.theory.specs.Kernel.{CoKernel}
+use Rattle.theory.specs.Runs.{led, Closed}
+use Rattle.theory.proofs.Tests.{all_below, all_both, at_both, is_closed, closed_there}
 use Rattle.theory.proofs.WorkedTables.{fork_merges, fork_keeps}
-use Rattle.worked.specs.Drafts.{Correct, draft_3, draft_4, check, fork_calls, room_for}
-use Rattle.worked.proofs.Answering.{SinkTests, correct}
-use Rattle.worked.proofs.Cases.{below_4, arcs_4}
+use Rattle.worked.specs.Drafts.{Correct, merging_draft, keeping_draft, check, fork_calls, room_for}
+use Rattle.worked.proofs.Answering.{SinkTests, sink_marks, all_co_kernel, correct}
+use Rattle.worked.proofs.Cases.{below_4}
 use Rattle.worked.proofs.Part.{Part, part_least}
-use Rattle.worked.proofs.Sink.{holds_fast, sinks}
+use Rattle.worked.proofs.Sink.{holds_fast, sinks, led_co_kernel}
 
 -- the closed book's table
 abbrev drawn : ℕ → Table Residue
@@ -37,7 +40,9 @@ drawn_lawful x =
     }
 
 -- the fork is what the start reaches of it
-drawn_part : (x : ℕ) → residue_of x ≡ residue_of (x % 256) → Part units_257 (drawn x) (fork x)
+drawn_part :
+    (x : ℕ) → all_both (λ q a. eqb ((fork x).weight q a).at ((drawn x).weight q a).at) 4 2 ≡ true → Part units_257 (drawn x) (fork x)
+unfolding all_below all_both
 drawn_part x e =
     record {
       closed = fork_closed x;
@@ -45,24 +50,38 @@ drawn_part x e =
       start = refl;
       start_weight = refl;
       final = below_4 (λ q. (fork x).final q ≡ (drawn x).final q) refl refl refl refl;
-      target = arcs_4 (λ q a. (fork x).target q a ≡ (drawn x).target q a) refl refl refl refl refl refl refl refl;
-      weight = arcs_4 (λ q a. (fork x).weight q a ≡ (drawn x).weight q a) refl refl refl refl refl e refl refl;
+      target =
+          λ q a l m. eqb-true _ _ (at_both (λ q a. eqb ((fork x).target q a) ((drawn x).target q a)) 4 2 refl q a l m);
+      weight =
+          λ q a l m.
+          chosen_path _ _
+          (eqb-true _ _ (at_both (λ q a. eqb ((fork x).weight q a).at ((drawn x).weight q a).at) 4 2 e q a l m));
     }
 
-sink_3 : SinkTests draft_3 3 2
+-- the sink is final, and word 1 0 leads there from each state
+co_kernel : (x : ℕ) → holds_fast (fork_least x) 3 ≡ true → (q : ℕ) → q < 4 → CoKernel (fork_least x) q
+co_kernel x fast q l =
+    led_co_kernel (fork_least x) 3 fast (omega arith) refl q (1 ∷ 0 ∷ []) (omega arith, (omega arith, tt))
+    (below_4 (λ q. led (fork_least x) q (1 ∷ 0 ∷ []) ≡ 3) refl refl refl refl q l)
+
+merging_sink : SinkTests merging_draft 3 2
 unfolding all_below holds_fast sinks
-sink_3 = record { some_letter = omega arith; fast = refl; few = refl; marks = λ q. refl }
+merging_sink = record { some_letter = omega arith; fast = refl; few = refl; marks = λ q. refl }
 
-sink_4 : SinkTests draft_4 3 2
+keeping_sink : SinkTests keeping_draft 3 2
 unfolding all_below holds_fast sinks
-sink_4 = record { some_letter = omega arith; fast = refl; few = refl; marks = λ q. refl }
+keeping_sink = record { some_letter = omega arith; fast = refl; few = refl; marks = λ q. refl }
 
-pub correct_3 : Correct draft_3
-correct_3 =
-    correct draft_3 3 2 refl (drawn_lawful 10)
-    (part_least units_257 (drawn 10) (fork 10) (drawn_part 10 refl) draft_3.least fork_merges.least) sink_3 fork_merges.hyper
+pub merging_correct : Correct merging_draft
+unfolding all_below all_both holds_fast
+merging_correct =
+    correct merging_draft refl (drawn_lawful 10)
+    (part_least units_257 (drawn 10) (fork 10) (drawn_part 10 refl) merging_draft.least fork_merges.least)
+    (sink_marks merging_draft 3 2 merging_sink) (all_co_kernel merging_draft (λ q. refl) (co_kernel 10 refl)) fork_merges.hyper
 
-pub correct_4 : Correct draft_4
-correct_4 =
-    correct draft_4 3 2 refl (drawn_lawful 11)
-    (part_least units_257 (drawn 11) (fork 11) (drawn_part 11 refl) draft_4.least fork_keeps.least) sink_4 fork_keeps.hyper
+pub keeping_correct : Correct keeping_draft
+unfolding all_below all_both holds_fast
+keeping_correct =
+    correct keeping_draft refl (drawn_lawful 11)
+    (part_least units_257 (drawn 11) (fork 11) (drawn_part 11 refl) keeping_draft.least fork_keeps.least)
+    (sink_marks keeping_draft 3 2 keeping_sink) (all_co_kernel keeping_draft (λ q. refl) (co_kernel 11 refl)) fork_keeps.hyper

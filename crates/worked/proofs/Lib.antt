@@ -6,3 +6,5 @@ mod Answering
 mod Dying
 mod Small
 mod Forks
+mod Spin
+mod Listed

@@ -1,23 +1,24 @@
--- Drafts 1 and 2 are correct. Assumes nothing.
+-- The drafts of a new book and of one state are correct. Assumes nothing.
 use Rattle.std.proofs.Common.{◌≡◌, ℕ, ◌<◌, true, false, [], ◌∷◌, inl, sym, refl, ap, ◌∙◌, arith}
 use Rattle.std.proofs.lemmas.Bool.{both_ways}
 use Rattle.weights.specs.Check.{Residue, residue_of, units_257}
 use Rattle.tables.specs.Table.{Table}
 use Rattle.theory.specs.Runs.{Closed, Reachable, Dead}
 use Rattle.theory.specs.Hyper.{Hyper}
+use Rattle.theory.specs.Kernel.{CoPreamble}
 use Rattle.theory.specs.Push.{Push}
 use Rattle.theory.specs.Series.{Equivalent}
 use Rattle.theory.proofs.Basics.{multiple_accepts}
 use Rattle.theory.proofs.Determined.Canonical.{Canonical}
 use Rattle.theory.proofs.Search.{final_push, push_unique, live_not_dead}
 use Rattle.theory.proofs.Tests.{all_below, all_both, is_closed, closed_there}
-use Rattle.worked.specs.Drafts.{Correct, source, draft_1, draft_2, off_alone}
-use Rattle.worked.proofs.Answering.{correct}
+use Rattle.worked.specs.Drafts.{Correct, source, new_book_draft, one_state_draft, off_alone}
+use Rattle.worked.proofs.Answering.{sink_marks, none_co_kernel, correct}
 use Rattle.worked.proofs.Cases.{below_1, below_2, arcs_1, arcs_2}
 use Rattle.worked.proofs.Dying.{dying_hyper}
 use Rattle.worked.proofs.Own.{own_least}
 use Rattle.worked.proofs.Part.{Part, part_least}
-use Rattle.worked.proofs.Sink.{holds_fast, sinks, stays}
+use Rattle.worked.proofs.Sink.{holds_fast, sinks, stays, sunk_co_preamble}
 
 module _ (t : Table Residue) where
   -- a sink that is not final is dead, so it has no push
@@ -28,7 +29,7 @@ module _ (t : Table Residue) where
   no_push s x d p =
       live_not_dead t s (record { by = p.word; is_word = p.smallest.is_word; accepted = p.smallest.accepted }) d
 
--- draft 1: state 0 is the sink
+-- a new book: state 0 is the sink
 off_fast : holds_fast (off_alone 1) 0 ≡ true
 unfolding all_below holds_fast
 off_fast = refl
@@ -79,37 +80,39 @@ off_hyper =
       start_weight = refl;
     })
 
-off_part : Part units_257 (source draft_1) (off_alone 1)
+off_part : Part units_257 (source new_book_draft) (off_alone 1)
 off_part =
     record {
       closed = off_closed;
       letters = refl;
       start = refl;
       start_weight = refl;
-      final = below_1 (λ q. (off_alone 1).final q ≡ (source draft_1).final q) refl;
-      target = arcs_1 (λ q a. (off_alone 1).target q a ≡ (source draft_1).target q a) refl;
-      weight = arcs_1 (λ q a. (off_alone 1).weight q a ≡ (source draft_1).weight q a) refl;
+      final = below_1 (λ q. (off_alone 1).final q ≡ (source new_book_draft).final q) refl;
+      target = arcs_1 (λ q a. (off_alone 1).target q a ≡ (source new_book_draft).target q a) refl;
+      weight = arcs_1 (λ q a. (off_alone 1).weight q a ≡ (source new_book_draft).weight q a) refl;
     }
 
-pub correct_1 : Correct draft_1
+pub new_book_correct : Correct new_book_draft
 unfolding sinks
-correct_1 =
-    correct draft_1 0 0 refl
+new_book_correct =
+    correct new_book_draft refl
     (record {
       some_state = omega arith;
       few_states = omega arith;
       some_letter = omega arith;
       few_letters = omega arith;
       start_inside = omega arith;
-      target_inside = arcs_1 (λ q a. (source draft_1).target q a < 1) (omega arith);
+      target_inside = arcs_1 (λ q a. (source new_book_draft).target q a < 1) (omega arith);
     })
-    (part_least units_257 (source draft_1) (off_alone 1) off_part (off_alone 1) (own_least units_257 (off_alone 1) off_canonical))
-    (record { some_letter = omega arith; fast = off_fast; few = refl; marks = λ q. refl })
+    (part_least units_257 (source new_book_draft) (off_alone 1) off_part (off_alone 1) (own_least units_257 (off_alone 1) off_canonical))
+    (sink_marks new_book_draft 0 0 (record { some_letter = omega arith; fast = off_fast; few = refl; marks = λ q. refl }))
+    (none_co_kernel new_book_draft (λ q. refl)
+    (below_1 (CoPreamble (off_alone 1)) (sunk_co_preamble (off_alone 1) 0 off_fast refl 0 0 refl)))
     off_hyper
 
--- draft 2: state 1 is the sink
+-- one state: state 1 is the sink
 abbrev two : Table Residue
-two = draft_2.least
+two = one_state_draft.least
 
 two_fast : holds_fast two 1 ≡ true
 unfolding all_below holds_fast
@@ -162,10 +165,10 @@ two_canonical =
           };
     }
 
-two_hyper : Hyper units_257 two draft_2.hyper draft_2.representative draft_2.factor
+two_hyper : Hyper units_257 two one_state_draft.hyper one_state_draft.representative one_state_draft.factor
 unfolding all_below sinks
 two_hyper =
-    dying_hyper units_257 two draft_2.hyper 1 1
+    dying_hyper units_257 two one_state_draft.hyper 1 1
     (record {
       inside = omega arith;
       start_inside = omega arith;
@@ -177,36 +180,38 @@ two_hyper =
       states = refl;
       letters = refl;
       final = refl;
-      target = below_1 (λ a. draft_2.hyper.target 0 a ≡ 0) refl;
-      weight = below_1 (λ a. draft_2.hyper.weight 0 a ≡ two.weight 1 a) refl;
+      target = below_1 (λ a. one_state_draft.hyper.target 0 a ≡ 0) refl;
+      weight = below_1 (λ a. one_state_draft.hyper.weight 0 a ≡ two.weight 1 a) refl;
       start = refl;
       start_weight = refl;
     })
 
-two_part : Part units_257 (source draft_2) two
+two_part : Part units_257 (source one_state_draft) two
 two_part =
     record {
       closed = two_closed;
       letters = refl;
       start = refl;
       start_weight = refl;
-      final = below_2 (λ q. two.final q ≡ (source draft_2).final q) refl refl;
-      target = arcs_2 (λ q a. two.target q a ≡ (source draft_2).target q a) refl refl;
-      weight = arcs_2 (λ q a. two.weight q a ≡ (source draft_2).weight q a) refl refl;
+      final = below_2 (λ q. two.final q ≡ (source one_state_draft).final q) refl refl;
+      target = arcs_2 (λ q a. two.target q a ≡ (source one_state_draft).target q a) refl refl;
+      weight = arcs_2 (λ q a. two.weight q a ≡ (source one_state_draft).weight q a) refl refl;
     }
 
-pub correct_2 : Correct draft_2
+pub one_state_correct : Correct one_state_draft
 unfolding all_below sinks
-correct_2 =
-    correct draft_2 1 1 refl
+one_state_correct =
+    correct one_state_draft refl
     (record {
       some_state = omega arith;
       few_states = omega arith;
       some_letter = omega arith;
       few_letters = omega arith;
       start_inside = omega arith;
-      target_inside = arcs_2 (λ q a. (source draft_2).target q a < 2) (omega arith) (omega arith);
+      target_inside = arcs_2 (λ q a. (source one_state_draft).target q a < 2) (omega arith) (omega arith);
     })
-    (part_least units_257 (source draft_2) two two_part two (own_least units_257 two two_canonical))
-    (record { some_letter = omega arith; fast = two_fast; few = refl; marks = λ q. refl })
+    (part_least units_257 (source one_state_draft) two two_part two (own_least units_257 two two_canonical))
+    (sink_marks one_state_draft 1 1 (record { some_letter = omega arith; fast = two_fast; few = refl; marks = λ q. refl }))
+    (none_co_kernel one_state_draft (λ q. refl)
+    (below_2 (CoPreamble two) (sunk_co_preamble two 1 two_fast refl 1 0 refl) (sunk_co_preamble two 1 two_fast refl 1 1 refl)))
     two_hyper

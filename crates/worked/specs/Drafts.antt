@@ -1,41 +1,46 @@
--- Five worked drafts: the calls that draw a book, and the least and the hyper table of the closed book. Weights are check numbers.
--- Assumes nothing.
-use Rattle.std.specs.Prelude.{◌≡◌, ℕ, ◌+◌, ◌-◌, ◌*◌, ◌%◌, ◌<◌, Bool, true, false, ◌==◌, List, [], ◌∷◌, length, get_or, map, Some, None, Ok}
-use Rattle.std.specs.List.{flat_map}
+-- Worked drafts: the calls that draw a book, and the least and the hyper table of the closed book. Assumes nothing.
+use Rattle.std.specs.Prelude.{◌≡◌, ℕ, ◌+◌, ◌-◌, ◌*◌, ◌%◌, ◌<◌, Bool, true, false, ◌==◌, List, [], ◌∷◌, ◌++◌, length, map, Some, None, Ok, codes}
+use Rattle.std.specs.List.{flat_map, range_with_len}
 use Rattle.weights.specs.Check.{Residue, residue_of, units_257, check_kind}
 use Rattle.weights.specs.Codes.{check_codes}
+use Rattle.weights.specs.Group.{Kind}
+use Rattle.weights.specs.Wheel.{wheel_kind}
 use Rattle.weights.specs.declared.check.Check.{Check}
+use Rattle.weights.specs.declared.wheel.Wheel.{Wheel}
 use Rattle.tables.specs.Sketch.{Lengths, blank, sketch_of, sketch_table, answers_of}
 use Rattle.tables.specs.Table.{Table, weight_of}
 use Rattle.tables.specs.declared.call.Call.{Call}
 use Rattle.tables.specs.declared.call.Call.TheVariants.{Rule, State, Arc, Start}
 use Rattle.drafts.specs.Draft.{listing}
 use Rattle.drafts.specs.Written.{field_of}
-use Rattle.theory.specs.Series.{WeighAlikeFrom}
+use Rattle.theory.specs.Series.{AlmostEquivalent, WeighAlikeFrom}
 use Rattle.theory.specs.Least.{Least}
-use Rattle.theory.specs.Kernel.{Kernel, Preamble}
-use Rattle.theory.specs.Hyper.{Hyper, kept_below}
+use Rattle.theory.specs.Kernel.{Kernel, Preamble, CoKernel, CoPreamble}
+use Rattle.theory.specs.Hyper.{Hyper, count_below}
 use Rattle.theory.specs.Theorems.{SameTable, SameHyper}
-use Rattle.theory.specs.Examples.{written, fork_least}
+use Rattle.minimize.specs.Compile.{mark_of}
+use Rattle.listings.specs.File.{FileText}
+use Rattle.theory.specs.Examples.{written, fork_least, fork_hyper, fork_representative, fork_factor, spin, spin_representative, spin_factor}
 
 -- a draft and what it comes to: the calls on a new book over so much memory, the least table of the closed book, which of its
--- states are kernel, and the hyper table with its representatives and factors
-pub record Draft : Type 0 where
+-- states are kernel and which co-kernel, and the hyper table with its representatives and factors
+pub record Draft {W : Type 0} (K : Kind W) : Type 0 where
   pub room : Lengths
-  pub calls : List (Call Check)
-  pub least : Table Residue
+  pub calls : List (Call W)
+  pub least : Table K.group.Mean
   pub kernel : ℕ → Bool
-  pub hyper : Table Residue
+  pub co_kernel : ℕ → Bool
+  pub hyper : Table K.group.Mean
   pub representative : ℕ → ℕ
-  pub factor : ℕ → Residue
+  pub factor : ℕ → K.group.Mean
 
 -- memories with just enough room for n states over s letters
 abbrev pub room_for : ℕ → ℕ → Lengths
 room_for n s = record { targets = 1 + n * s; weights = 1 + n * s; marks = n }
 
 -- the table of the closed book: its states, and last the off state
-abbrev pub source : Draft → Table Residue
-source d = sketch_table check_kind (sketch_of d.room blank d.calls)
+abbrev pub source : {W : Type 0} {K : Kind W} → Draft K → Table K.group.Mean
+source {K = K} d = sketch_table K (sketch_of d.room blank d.calls)
 
 -- How many states the closed book, the least and the hyper table have, and how many of the least table's are kernel. Words of the
 -- agreement length or more weigh alike in the closed book and the hyper table.
@@ -46,30 +51,36 @@ pub record Counts : Type 0 where
   pub kernel : ℕ
   pub agreement : ℕ
 
-abbrev pub counts : Draft → Counts
+abbrev pub counts : {W : Type 0} {K : Kind W} → Draft K → Counts
 counts d =
     record {
       closed = (source d).states;
       least = d.least.states;
       hyper = d.hyper.states;
-      kernel = kept_below d.kernel d.least.states;
+      kernel = count_below d.kernel d.least.states;
       agreement = 2 * d.least.states - 2;
     }
 
--- the book takes each call, and the tables are what the draft says they are, and the only ones
-pub record Correct (d : Draft) : Type 0 where
+-- the marks of the states of the least table, in order
+abbrev pub marks : {W : Type 0} {K : Kind W} → Draft K → List ℕ
+marks d = map (λ q. mark_of (d.least.final q) (d.kernel q) (d.co_kernel q)) (range_with_len 0 d.least.states)
+
+-- the book takes each call, and the tables and the marks are what the draft says they are, and the only ones
+pub record Correct {W : Type 0} {K : Kind W} (d : Draft K) : Type 0 where
   pub taken : answers_of d.room blank d.calls ≡ map (λ k. Ok tt) d.calls
-  pub least : Least units_257 (source d) d.least
-  pub only_least : (l : Table Residue) → Least units_257 (source d) l → SameTable units_257 d.least l
+  pub least : Least K.group (source d) d.least
+  pub only_least : (l : Table K.group.Mean) → Least K.group (source d) l → SameTable K.group d.least l
   pub kernel : (q : ℕ) → q < d.least.states → d.kernel q ≡ true → Kernel d.least q
   pub preamble : (q : ℕ) → q < d.least.states → d.kernel q ≡ false → Preamble d.least q
-  pub hyper : Hyper units_257 d.least d.hyper d.representative d.factor
+  pub co_kernel : (q : ℕ) → q < d.least.states → d.co_kernel q ≡ true → CoKernel d.least q
+  pub co_preamble : (q : ℕ) → q < d.least.states → d.co_kernel q ≡ false → CoPreamble d.least q
+  pub hyper : Hyper K.group d.least d.hyper d.representative d.factor
   pub only_hyper :
-      (h : Table Residue) (r : ℕ → ℕ) (f : ℕ → Residue) → Hyper units_257 d.least h r f →
-      SameHyper units_257 d.least d.hyper h d.representative r d.factor f
-  pub agree : WeighAlikeFrom units_257 (counts d).agreement (source d) d.hyper
+      (h : Table K.group.Mean) (r : ℕ → ℕ) (f : ℕ → K.group.Mean) → Hyper K.group d.least h r f →
+      SameHyper K.group d.least d.hyper h d.representative r d.factor f
+  pub agree : WeighAlikeFrom K.group (counts d).agreement (source d) d.hyper
 
--- the element of a code
+-- the check number of a code
 abbrev pub check : ℕ → Check
 check c = record { 0 = c % 256 }
 
@@ -77,26 +88,28 @@ check c = record { 0 = c % 256 }
 abbrev pub off_alone : ℕ → Table Residue
 off_alone first = written residue_of 1 first (false ∷ []) ((0 ∷ []) ∷ []) ((1 ∷ []) ∷ [])
 
--- 1. A new book is closed at once. The off state is all there is.
-abbrev pub draft_1 : Draft
-draft_1 = record {
+-- A new book is closed at once. The off state is all there is.
+abbrev pub new_book_draft : Draft check_kind
+new_book_draft = record {
   room = room_for 0 1;
   calls = [];
   least = off_alone 1;
   kernel = λ q. q == 0;
+  co_kernel = λ q. false;
   hyper = off_alone 1;
   representative = λ q. 0;
   factor = λ q. residue_of 1;
 }
 
--- 2. One final state, and no arc, so that its arc leads to the off state, which is state 1. It is redirected there.
-abbrev pub draft_2 : Draft
-draft_2 = record {
+-- One final state, and no arc, so that its arc leads to the off state, which is state 1. It is redirected there.
+abbrev pub one_state_draft : Draft check_kind
+one_state_draft = record {
   room = room_for 1 1;
   calls = State true ∷ Start 0 (check 5) ∷ [];
   least =
       written residue_of 1 5 (true ∷ false ∷ []) ((1 ∷ []) ∷ (1 ∷ []) ∷ []) ((1 ∷ []) ∷ (1 ∷ []) ∷ []);
   kernel = λ q. q == 1;
+  co_kernel = λ q. false;
   hyper = off_alone 5;
   representative = λ q. 1;
   factor = λ q. residue_of 1;
@@ -112,55 +125,94 @@ fork_calls w x =
     Arc 3 0 3 (w 3) ∷ Arc 3 1 3 (w 1) ∷
     Start 0 (w 7) ∷ []
 
--- 3. State 2 is redirected to state 1 with factor 5.
-abbrev pub draft_3 : Draft
-draft_3 = record {
+-- The fork at 10: state 2 is redirected to state 1 with factor 5.
+abbrev pub merging_draft : Draft check_kind
+merging_draft = record {
   room = room_for 4 2;
   calls = fork_calls check 10;
   least = fork_least 10;
   kernel = λ q. q == 3;
-  hyper =
-      written residue_of 2 7 (false ∷ false ∷ true ∷ [])
-      ((1 ∷ 1 ∷ []) ∷ (2 ∷ 2 ∷ []) ∷ (2 ∷ 2 ∷ []) ∷ [])
-      ((2 ∷ 5 ∷ []) ∷ (1 ∷ 2 ∷ []) ∷ (3 ∷ 1 ∷ []) ∷ []);
-  representative = λ q. get_or (0 ∷ 1 ∷ 1 ∷ 3 ∷ []) q 0;
-  factor = λ q. residue_of (get_or (1 ∷ 1 ∷ 5 ∷ 1 ∷ []) q 1);
+  co_kernel = λ q. true;
+  hyper = fork_hyper;
+  representative = fork_representative;
+  factor = fork_factor;
 }
 
--- 4. No state is redirected.
-abbrev pub draft_4 : Draft
-draft_4 = record {
+-- The fork at 11: no state is redirected.
+abbrev pub keeping_draft : Draft check_kind
+keeping_draft = record {
   room = room_for 4 2;
   calls = fork_calls check 11;
   least = fork_least 11;
   kernel = λ q. q == 3;
+  co_kernel = λ q. true;
   hyper = fork_least 11;
   representative = λ q. q;
   factor = λ q. residue_of 1;
 }
 
--- the draft file of draft 3
+-- the wheel number of a place
+abbrev pub wheel : ℕ → Wheel
+wheel n = record { 0 = n }
+
+-- The spin of theory's examples. No arc leads to the off state. All states are kernel, so those of one class are not merged.
+abbrev pub spinning_draft : Draft wheel_kind
+spinning_draft = record {
+  room = room_for 4 3;
+  calls =
+      Rule 3 ∷ State false ∷ State true ∷ State false ∷ State true ∷
+      Arc 0 0 0 (wheel 0) ∷ Arc 0 1 1 (wheel 0) ∷ Arc 0 2 2 (wheel 0) ∷
+      Arc 1 0 3 (wheel 0) ∷ Arc 1 1 3 (wheel 0) ∷ Arc 1 2 3 (wheel 0) ∷
+      Arc 2 0 3 (wheel 0) ∷ Arc 2 1 3 (wheel 0) ∷ Arc 2 2 3 (wheel 0) ∷
+      Arc 3 0 3 (wheel 1) ∷ Arc 3 1 3 (wheel 1) ∷ Arc 3 2 3 (wheel 1) ∷
+      Start 0 (wheel 0) ∷ [];
+  least = spin;
+  kernel = λ q. true;
+  co_kernel = λ q. true;
+  hyper = spin;
+  representative = spin_representative;
+  factor = spin_factor;
+}
+
+-- the draft file of the merging draft
 abbrev pub file : List ℕ
 file = flat_map (field_of check_codes.number) (fork_calls (λ c. c) 10)
 
+-- the text that it is listed as
+abbrev pub text : List ℕ
+text =
+    codes "least 4\nhyper 3\nkernel 1\nagree 6\nstart 0 7\nstate 0 no\nstate 1 no\nstate 2 final\n"
+    ++ codes "arc 0 0 1 2\narc 0 1 1 5\narc 1 0 2 1\narc 1 1 2 2\narc 2 0 2 3\narc 2 1 2 1\n"
+
 pub record WorkedDrafts : Type 0 where
-  pub new_book : Correct draft_1
-  pub new_book_counts : counts draft_1 ≡ record { closed = 1; least = 1; hyper = 1; kernel = 1; agreement = 0 }
-  pub one_state : Correct draft_2
-  pub one_state_counts : counts draft_2 ≡ record { closed = 2; least = 2; hyper = 1; kernel = 1; agreement = 2 }
-  pub one_state_final : draft_2.hyper.final 0 ≡ false
-  pub one_state_weight : draft_2.hyper.start_weight ≡ residue_of 5
-  pub merging : Correct draft_3
-  pub merging_counts : counts draft_3 ≡ record { closed = 5; least = 4; hyper = 3; kernel = 1; agreement = 6 }
-  pub merging_factor : draft_3.factor 2 ≡ residue_of 5
-  pub keeping : Correct draft_4
-  pub keeping_counts : counts draft_4 ≡ record { closed = 5; least = 4; hyper = 4; kernel = 1; agreement = 6 }
-  -- the file of draft 3 has 108 bytes and no fault, and lists its calls
+  pub new_book : Correct new_book_draft
+  pub new_book_counts : counts new_book_draft ≡ record { closed = 1; least = 1; hyper = 1; kernel = 1; agreement = 0 }
+  pub new_book_marks : marks new_book_draft ≡ 2 ∷ []
+  pub one_state : Correct one_state_draft
+  pub one_state_counts : counts one_state_draft ≡ record { closed = 2; least = 2; hyper = 1; kernel = 1; agreement = 2 }
+  pub one_state_marks : marks one_state_draft ≡ 1 ∷ 2 ∷ []
+  pub one_state_final : one_state_draft.hyper.final 0 ≡ false
+  pub one_state_weight : one_state_draft.hyper.start_weight ≡ residue_of 5
+  pub merging : Correct merging_draft
+  pub merging_counts : counts merging_draft ≡ record { closed = 5; least = 4; hyper = 3; kernel = 1; agreement = 6 }
+  pub merging_marks : marks merging_draft ≡ 4 ∷ 4 ∷ 5 ∷ 7 ∷ []
+  pub merging_factor : merging_draft.factor 2 ≡ residue_of 5
+  pub keeping : Correct keeping_draft
+  pub keeping_counts : counts keeping_draft ≡ record { closed = 5; least = 4; hyper = 4; kernel = 1; agreement = 6 }
+  pub keeping_marks : marks keeping_draft ≡ 4 ∷ 4 ∷ 5 ∷ 7 ∷ []
+  pub spinning : Correct spinning_draft
+  pub spinning_counts : counts spinning_draft ≡ record { closed = 5; least = 4; hyper = 4; kernel = 4; agreement = 6 }
+  pub spinning_marks : marks spinning_draft ≡ 6 ∷ 7 ∷ 6 ∷ 7 ∷ []
+  -- its states 2 and 3 are almost-equivalent to state 1, and are kept
+  pub spinning_two_one : AlmostEquivalent wheel_kind.group spinning_draft.least 2 1
+  pub spinning_three_one : AlmostEquivalent wheel_kind.group spinning_draft.least 3 1
+  -- the file of the merging draft has 108 bytes and no fault, lists its calls, and is listed as the text
   pub file_size : length file ≡ 108
   pub file_whole : (listing check_codes file).fault ≡ None
-  pub file_calls : map (λ p. p.call) (listing check_codes file).calls ≡ draft_3.calls
-  -- 5. In draft 3 the closed book and the hyper table agree on word 0 1, and not yet on word 1.
-  pub word_0_1 : weight_of units_257 (source draft_3) (0 ∷ 1 ∷ []) ≡ Some (residue_of 28)
-  pub word_0_1_hyper : weight_of units_257 draft_3.hyper (0 ∷ 1 ∷ []) ≡ Some (residue_of 28)
-  pub word_1 : weight_of units_257 (source draft_3) (1 ∷ []) ≡ Some (residue_of 7)
-  pub word_1_hyper : weight_of units_257 draft_3.hyper (1 ∷ []) ≡ None
+  pub file_calls : map (λ p. p.call) (listing check_codes file).calls ≡ merging_draft.calls
+  pub listed : FileText file text
+  -- In the merging draft the closed book and the hyper table agree on word 0 1, and not yet on word 1.
+  pub word_0_1 : weight_of units_257 (source merging_draft) (0 ∷ 1 ∷ []) ≡ Some (residue_of 28)
+  pub word_0_1_hyper : weight_of units_257 merging_draft.hyper (0 ∷ 1 ∷ []) ≡ Some (residue_of 28)
+  pub word_1 : weight_of units_257 (source merging_draft) (1 ∷ []) ≡ Some (residue_of 7)
+  pub word_1_hyper : weight_of units_257 merging_draft.hyper (1 ∷ []) ≡ None

@@ -1,7 +1,7 @@
 // Worked drafts, proved over the definitions alone.
 ghost use Rattle.worked.specs.Drafts.{WorkedDrafts};
 
-// Nothing is computed: the promise is what the drafts come to.
-fn worked_drafts()
+// Computes nothing: its contract is the drafts.
+pub fn worked_drafts()
     ensures { WorkedDrafts }
 {}

@@ -2,3 +2,5 @@
 
 // Worked drafts, from the calls that draw a book to the hyper table.
 mod drafts_proved;
+
+pub use drafts_proved::worked_drafts;
