@@ -3,10 +3,16 @@
 // Examples of the library in use, each refusal among them: tests, and functions that are proved and not run.
 #[cfg(test)]
 mod books;
+#[cfg(test)]
+mod compiled;
 mod copies;
 mod drafts_proved;
 #[cfg(test)]
 mod files;
+#[cfg(test)]
+mod listed;
+#[cfg(test)]
+mod lists;
 mod owner;
 #[cfg(test)]
 mod piles;
