@@ -1,0 +1,88 @@
+use std::alloc::{AllocError, Global};
+use tables::Source;
+use weights::Weight;
+
+// Where a word leads, and with which weight; an arc, for a word of one letter.
+#[derive(Clone, Copy)]
+pub struct Arc<W> {
+    pub target: usize,
+    pub weight: W,
+}
+
+// A state with its arcs, by letter.
+#[derive(Drop)]
+pub struct State<W> {
+    pub is_final: bool,
+    pub arcs: Vec<Arc<W>>,
+}
+
+#[derive(Drop)]
+pub struct Table<W> {
+    pub letters: u8,
+    pub start: usize,
+    pub start_weight: W,
+    pub states: Vec<State<W>>,
+}
+
+impl<W: Weight> Table<W> {
+    // The table that a source means, question by question.
+    pub(crate) fn of<S: Source<W>>(source: &S, alloc: Global) -> Result<Table<W>, AllocError> {
+        let mut states = Vec::new(alloc);
+        for state in 0..source.states() {
+            let mut arcs = Vec::new(alloc);
+            for letter in 0..source.letters() {
+                if let (Some(target), Some(weight)) = (
+                    source.target(state, letter),
+                    source.weight(state, letter),
+                ) {
+                    arcs.push(Arc {
+                        target: usize::from(target),
+                        weight,
+                    })?;
+                }
+            }
+            states.push(State {
+                is_final: source.is_final(state) == Some(true),
+                arcs,
+            })?;
+        }
+        Ok(Table {
+            letters: source.letters(),
+            start: usize::from(source.start()),
+            start_weight: source.start_weight(),
+            states,
+        })
+    }
+
+    pub(crate) fn is_final(&self, state: usize) -> bool {
+        match self.states.get(state) {
+            Some(state) => state.is_final,
+            None => false,
+        }
+    }
+
+    pub(crate) fn arc(&self, state: usize, letter: u8) -> Option<Arc<W>> {
+        self.states
+            .get(state)?
+            .arcs
+            .get(usize::from(letter))
+            .copied()
+    }
+
+    // A word with one letter more.
+    pub(crate) fn follow(&self, word: Arc<W>, letter: u8) -> Option<Arc<W>> {
+        let arc = self.arc(word.target, letter)?;
+        Some(Arc {
+            target: arc.target,
+            weight: word.weight.times(arc.weight),
+        })
+    }
+}
+
+// The empty word.
+pub(crate) fn empty_word<W: Weight>(state: usize) -> Arc<W> {
+    Arc {
+        target: state,
+        weight: W::one(),
+    }
+}
