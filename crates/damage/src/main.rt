@@ -1,0 +1,81 @@
+#![tactic(auto)]
+
+// Draws draft files, damages most of them, and compares the text that the library writes for each with the text of a second reading. The
+// arguments are how many files, and the number of the first.
+mod draft;
+mod field;
+mod harm;
+mod kind;
+mod listing;
+mod reading;
+mod tally;
+mod trial;
+
+use anyhow::bail;
+use harm::DAMAGES;
+use kind::Kind;
+use std::env;
+use tally::{Row, Tally};
+use trial::{MEMORY, trial};
+
+fn print_row(rt: &HostRuntime, name: &str, row: Row) -> anyhow::Result<()> {
+    let files = row.files();
+    let listed = row.get(0);
+    print!(rt; "{name:<34}{files:>8}{listed:>8}")?;
+    for number in 1..8u8 {
+        let refused = row.get(number);
+        print!(rt; "{refused:>8}")?;
+    }
+    println!(rt; "")?;
+    Ok(())
+}
+
+// Prints the counts.
+fn print_counts(rt: &HostRuntime, tally: &Tally) -> anyhow::Result<()> {
+    println!(rt;
+        "{:<34}{:>8}{:>8}{:>8}{:>8}{:>8}{:>8}{:>8}{:>8}{:>8}",
+        "", "files", "listed", "no. 1", "no. 2", "no. 3", "no. 4", "no. 5", "no. 6", "no. 7"
+    )?;
+    print_row(rt, "all", tally.all)?;
+    print_row(rt, "plain", tally.of_kind(Kind::Plain))?;
+    print_row(rt, "check", tally.of_kind(Kind::Check))?;
+    print_row(rt, "wheel", tally.of_kind(Kind::Wheel))?;
+    print_row(rt, "undamaged", tally.undamaged)?;
+    for (damage, name) in DAMAGES {
+        print_row(rt, name, tally.of_damage(damage))?;
+    }
+    let smaller = tally.smaller;
+    let short = tally.short;
+    println!(rt; "hyper tables smaller than the least one: {smaller}")?;
+    println!(rt; "memories too short for a text: {short}")?;
+    Ok(())
+}
+
+// The arguments as numbers: how many files, and the number of the first.
+fn arguments(rt: &HostRuntime) -> anyhow::Result<(u32, u32)> {
+    let mut numbers = [4000u32, 0];
+    for (number, text) in numbers.iter_mut().zip(env::args(rt)?.skip(1)) {
+        *number = text.as_str().parse::<u32>().unwrap_or(0);
+    }
+    let [count, first] = numbers;
+    Ok((count, first))
+}
+
+fn run(rt: &HostRuntime) -> anyhow::Result<()> {
+    let (count, first) = arguments(rt)?;
+    let mut memory = vec![in rt.alloc(); 0u8; usize::from(MEMORY)]?;
+    let mut tally = Tally::new();
+    for number in first..first.saturating_add(count) {
+        if let Some(difference) = trial(number, &mut memory, &mut tally, rt.alloc())? {
+            println!(rt; "file {number} differs: {difference}")?;
+            bail!("a difference");
+        }
+    }
+    print_counts(rt, &tally)?;
+    println!(rt; "no difference in {count} files")?;
+    Ok(())
+}
+
+fn main(rt: HostRuntime) -> anyhow::Result<()> {
+    run(&rt)
+}
