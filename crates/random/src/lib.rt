@@ -1,6 +1,6 @@
 #![tactic(auto)]
 
-// Numbers that look random, for the programs that try and measure. Nothing is promised but that each call is safe and returns.
+// Numbers that look random, for the programs that try and measure.
 mod numbers;
 
 pub use numbers::{Random, mixed};
