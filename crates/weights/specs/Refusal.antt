@@ -2,7 +2,7 @@
 use Rattle.std.specs.Prelude.{ℕ, Bool, cond, List, [], ◌∷◌, ◌++◌, Some, None, Ok, Err, codes, Option, Result}
 use Rattle.std.specs.Fmt.{decimal}
 use Rattle.weights.specs.declared.refusal.Refusal.{Refusal}
-use Rattle.weights.specs.declared.refusal.Refusal.TheVariants.{Letters, NoState, NoLetter, NoLetterAt, NoCode, NoRoom, ShortMemory, BadField, StateCount, UnequalLetters}
+use Rattle.weights.specs.declared.refusal.Refusal.TheVariants.{Letters, NoState, NoLetter, NoLetterAt, NoCode, NoRoom, ShortMemory, BadField, StateCount, UnequalLetters, SecondArc}
 
 pub record Told : Type 0 where
   pub number : ℕ
@@ -27,6 +27,7 @@ told ShortMemory = bare 6
 told BadField = bare 7
 told StateCount = bare 8
 told UnequalLetters = bare 9
+told SecondArc = bare 10
 
 -- how a refusal prints: its number, and the index that goes with it
 abbrev pub told_text : Told → List ℕ

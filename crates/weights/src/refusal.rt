@@ -28,6 +28,8 @@ pub enum Refusal {
     StateCount,
     // two sources have unequal letters
     UnequalLetters,
+    // the state and letter already have an arc
+    SecondArc,
 }
 
 impl Refusal {
@@ -46,6 +48,7 @@ impl Refusal {
             Refusal::BadField => 7,
             Refusal::StateCount => 8,
             Refusal::UnequalLetters => 9,
+            Refusal::SecondArc => 10,
         }
     }
 
