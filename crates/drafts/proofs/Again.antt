@@ -10,9 +10,8 @@ use Rattle.std.proofs.lemmas.Bool.Decides.{nat_tests}
 use Rattle.weights.specs.Codes.{Codes, code_for, within}
 use Rattle.weights.specs.Group.{Kind}
 use Rattle.tables.specs.Book.{opened}
-use Rattle.tables.specs.Call.{verdict}
 use Rattle.tables.specs.Sheet.{sheet_table}
-use Rattle.tables.specs.Sketch.{Lengths, Link, Sketch, blank, sketch_size, drawn_on, sketch_table, link_to, link_by}
+use Rattle.tables.specs.Sketch.{Lengths, Link, Sketch, blank, sketch_verdict, drawn_on, sketch_table, link_to, link_by}
 use Rattle.tables.specs.Table.{Table, Lawful, Word, WeighAlike, scaled, weight_from}
 use Rattle.tables.specs.declared.call.Call.{Call}
 use Rattle.tables.specs.declared.call.Call.TheVariants.{Rule, State}
@@ -58,11 +57,12 @@ module _ {W : Type 0} (K : Kind W) (k : Codes W) (t : Table K.group.Mean) (lawfu
       ∙ ap (λ fs. record { letters = t.letters; finals = fs; arc = λ q a. None; start = None })
       (sym (map-range_with_len_more t.final 0 m m (zero-add m)) ∙ ap (λ j. map t.final (range_with_len 0 j)) (add-one m))
 
-  -- all the states and the first m arcs are drawn
+  -- all the states and the first m arcs are drawn, and no arc from m on
   record Drawn (m : ℕ) (s : Sketch W) : Type 0 where
     pub letters : s.letters ≡ t.letters
     pub finals : s.finals ≡ map t.final (range_with_len 0 t.states)
     pub arcs : (q a : ℕ) → a < t.letters → q * t.letters + a < m → s.arc q a ≡ Some (link q a)
+    pub undrawn : (q a : ℕ) → a < t.letters → m ≤ q * t.letters + a → s.arc q a ≡ None
 
   abbrev with_arcs : ℕ → Sketch W
   with_arcs m = run k d (with_states t.states) (arc_call K k t) m
@@ -73,6 +73,7 @@ module _ {W : Type 0} (K : Kind W) (k : Codes W) (t : Table K.group.Mean) (lawfu
         letters = ap (λ s. s.letters) (states_drawn t.states);
         finals = ap (λ s. s.finals) (states_drawn t.states);
         arcs = λ q a l h. absurd (not-suc-le-zero h);
+        undrawn = λ q a l h. ap (λ s. s.arc q a) (states_drawn t.states);
       }
   arcs_drawn (suc m) =
       let before = arcs_drawn m in
@@ -81,6 +82,7 @@ module _ {W : Type 0} (K : Kind W) (k : Codes W) (t : Table K.group.Mean) (lawfu
         letters = before.letters;
         finals = before.finals;
         arcs = λ q a l h. grind (arith, nat_tests, before.arcs q a l, div-mul-add q t.letters a l, mod-mul-add q t.letters a l);
+        undrawn = λ q a l h. grind (arith, nat_tests, before.undrawn q a l, div-mul-add q t.letters a l, mod-mul-add q t.letters a l);
       })
 
   states_in : (m : ℕ) (s : Sketch W) → Drawn m s → length s.finals ≡ t.states
@@ -88,19 +90,19 @@ module _ {W : Type 0} (K : Kind W) (k : Codes W) (t : Table K.group.Mean) (lawfu
 
   module _ (n : Lengths) (targets : 1 + arc_count t ≤ n.targets) (weights : 1 + arc_count t ≤ n.weights)
       (marks : t.states ≤ n.marks) (few : t.states < 4096) where
-    states_pass : (i : ℕ) → i < t.states → verdict (sketch_size n (with_states i)) (decoded k d (state_call K k t i)) ≡ None
+    states_pass : (i : ℕ) → i < t.states → sketch_verdict n (with_states i) (decoded k d (state_call K k t i)) ≡ None
     states_pass i l =
         let rows = mul-le-mul_right t.letters l in
         let count = length-map-range_with_len t.final 0 i in
         rw (states_drawn i) (grind (arith, nat_tests, rows, count))
 
-    arcs_pass : (i : ℕ) → i < arc_count t → verdict (sketch_size n (with_arcs i)) (decoded k d (arc_call K k t i)) ≡ None
+    arcs_pass : (i : ℕ) → i < arc_count t → sketch_verdict n (with_arcs i) (decoded k d (arc_call K k t i)) ≡ None
     arcs_pass i l =
         let before = arcs_drawn i in
         let inside = arc_inside t lawful t.letters i refl l in
         let count = states_in i (with_arcs i) before in
         let target = lawful.target_inside (i / t.letters) (i % t.letters) inside.0 inside.1 in
-        grind (arith, nat_tests, count, before.letters, inside, target)
+        grind (arith, nat_tests, count, before.letters, before.undrawn, inside, target)
 
     calls_pass : Unrefused k d n blank (draft_calls K k t)
     calls_pass =

@@ -1,16 +1,16 @@
 -- Lists of calls on a new book follow the sketch of the list. Assumes nothing.
-use Rattle.std.proofs.Common.{◌≡◌, ℕ, ◌+◌, ◌*◌, ◌<◌, ◌≤◌, true, ◌&&◌, leb, ltb, List, [], ◌∷◌, ◌++◌, length, get_or, take, Some, None, Ok, Option, zero-mul, refl, sym, ap, ◌∙◌, inl, inr, arith}
+use Rattle.std.proofs.Common.{◌≡◌, ℕ, ◌+◌, ◌*◌, ◌<◌, ◌≤◌, Bool, true, false, cond, ◌&&◌, leb, ltb, List, [], ◌∷◌, ◌++◌, length, get_or, take, Some, None, Ok, Option, zero-mul, refl, sym, ap, ◌∙◌, inl, inr, arith}
 use Rattle.std.proofs.lemmas.Bool.{and_from, cases_lt, cond-true, le-leb, lt-ltb}
 use Rattle.std.proofs.lemmas.List.{length_push, take_more}
 use Rattle.weights.specs.Group.{Kind}
-use Rattle.weights.specs.Refusal.{Told, judged}
+use Rattle.weights.specs.Refusal.{Told, judged, unless}
 use Rattle.tables.specs.Table.{is_letter_count}
-use Rattle.tables.specs.Call.{has_places, verdict, if_taken}
+use Rattle.tables.specs.Call.{Size, has_places, may_rule, has_room, if_taken}
 use Rattle.tables.specs.Book.{Contents, size_of, opened, left_by, left_by_all, answers_by}
 use Rattle.tables.specs.Made.{calls_of, HasSize}
-use Rattle.tables.specs.Sizes.{size_over, size_taken, size_left}
+use Rattle.tables.specs.Sizes.{size_over, size_left}
 use Rattle.tables.specs.Sheet.{sheet_table, sheet_of, sheet_verdict}
-use Rattle.tables.specs.Sketch.{Lengths, lengths_of, Sketch, blank, sketch_size, drawn_on, sketched, sketch_answer, sketch_of, answers_of, sketch_table}
+use Rattle.tables.specs.Sketch.{Lengths, lengths_of, Sketch, blank, sketch_size, sketch_verdict, drawn_on, sketched, sketch_answer, sketch_of, answers_of, sketch_table}
 use Rattle.tables.specs.declared.call.Call.{Call}
 use Rattle.tables.specs.declared.call.Call.TheVariants.{Rule, State, Arc, Start}
 use Rattle.tables.specs.declared.made.Made.{Made}
@@ -94,28 +94,29 @@ module _ {W : Type 0} (ts : List ℕ) (ws : List W) (ms : List ℕ) (ks : List (
       let h = drawn_in_step in
       sheet_made contents_drawn h.some_letter h.few_letters h.few_states (drawn_has_places l m)
 
--- a function of what a call leaves
-if_taken_under : {X Y : Type 0} (f : X → Y) (v : Option Told) (x y : X) → f (if_taken v x y) ≡ if_taken v (f x) (f y)
-if_taken_under f None x y = refl
-if_taken_under f (Some t) x y = refl
+-- a function of what a call leaves whose only check is a test
+under_check : {X Y : Type 0} (f : X → Y) (b : Bool) (n : ℕ) (x y : X) → f (if_taken (unless b n None) x y) ≡ cond b (f x) (f y)
+under_check f true n x y = refl
+under_check f false n x y = refl
+
+-- a function of what a call leaves that changes nothing of it
+unchanged : {X Y : Type 0} (f : X → Y) (v : Option Told) (x y : X) → f x ≡ f y → f (if_taken v x y) ≡ f y
+unchanged f None x y e = e
+unchanged f (Some t) x y e = refl
 
 -- the size of a sketch after a call is told by its size before
 size_sketched : {W : Type 0} (n : Lengths) (s : Sketch W) (k : Call W) →
     sketch_size n (sketched n s k) ≡ size_left (sketch_size n s) k
-size_sketched {W = W} n s (Rule m) =
-    if_taken_under (sketch_size n) (verdict {W = W} (sketch_size n s) (Rule m)) (drawn_on s (Rule m)) s
-size_sketched {W = W} n s (State f) =
-    let v : Option Told = verdict {W = W} (sketch_size n s) (State f) in
-    let more : sketch_size n (drawn_on s (State f)) ≡ size_taken {W = W} (sketch_size n s) (State f) =
-    λ j.
-    record { targets = n.targets; weights = n.weights; marks = n.marks; letters = s.letters; count = length_push s.finals f j }
+size_sketched n s (Rule m) = under_check (sketch_size n) (may_rule (sketch_size n s) m) 1 (drawn_on s (Rule m)) s
+size_sketched n s (State f) =
+    let room : Bool = has_room (sketch_size n s) in
+    let size : ℕ → Size =
+    λ m. record { targets = n.targets; weights = n.weights; marks = n.marks; letters = s.letters; count = m }
     in
-    if_taken_under (sketch_size n) v (drawn_on s (State f)) s
-    ∙ ap (λ z. if_taken v z (sketch_size n s)) more
-size_sketched {W = W} n s (Arc q a r w) =
-    if_taken_under (sketch_size n) (verdict (sketch_size n s) (Arc q a r w)) (drawn_on s (Arc q a r w)) s
-size_sketched {W = W} n s (Start q w) =
-    if_taken_under (sketch_size n) (verdict (sketch_size n s) (Start q w)) (drawn_on s (Start q w)) s
+    under_check (sketch_size n) room 5 (drawn_on s (State f)) s
+    ∙ ap (λ m. cond room (size m) (sketch_size n s)) (length_push s.finals f)
+size_sketched n s (Arc q a r w) = unchanged (sketch_size n) (sketch_verdict n s (Arc q a r w)) (drawn_on s (Arc q a r w)) s refl
+size_sketched n s (Start q w) = unchanged (sketch_size n) (sketch_verdict n s (Start q w)) (drawn_on s (Start q w)) s refl
 
 -- one more call
 sketch_more : {W : Type 0} (n : Lengths) (s : Sketch W) (ms : List (Made W)) (m : Made W) →

@@ -1,15 +1,15 @@
 -- A book stays in step with the sketch of the calls made on it, and its sheet means the sketch's table. Assumes nothing.
-use Rattle.std.proofs.Common.{◌≡◌, ℕ, ◌+◌, ◌*◌, ◌%◌, ◌<◌, ◌≤◌, Bool, true, false, cond, ◌&&◌, eqb, ltb, leb, ◌≢◌, List, [], ◌∷◌, ◌++◌, length, get_or, set, Some, None, Option, sym, refl, ap, ◌∙◌, subst, inl, inr, arith}
+use Rattle.std.proofs.Common.{◌≡◌, ℕ, ◌+◌, ◌*◌, ◌%◌, ◌<◌, ◌≤◌, Bool, true, false, cond, ◌&&◌, eqb, ltb, leb, ◌≢◌, List, [], ◌∷◌, ◌++◌, length, get_or, set, Some, None, Option, is_none, sym, refl, ap, ◌∙◌, subst, inl, inr, arith}
 use mathlib.Core.Path.{fun_ext}
 use Rattle.std.proofs.lemmas.List.{length-set, length_push, get_or-set_same, get_or-set_other, get_or_push, get_or_append_left, get_or_past, get_or-map}
-use Rattle.std.proofs.lemmas.Bool.{cases_lt, cases_eq, cond_both, cond-true, cond-false, and_parts, and_from, and_cases, and_left, ltb-true, ltb-false, leb-true, eqb-true, lt-ltb, le-ltb, eq-eqb, both_ways}
+use Rattle.std.proofs.lemmas.Bool.{cases_lt, cases_eq, cond_both, cond-true, cond-false, and_parts, and_from, and_cases, and_left, ltb-true, ltb-false, leb-true, eqb-true, lt-ltb, le-ltb, eq-eqb, ne_eqb, both_ways}
 use Rattle.weights.specs.Group.{Kind}
 use Rattle.weights.specs.Refusal.{Told, unless}
 use Rattle.weights.proofs.Judging.{unless_none}
 use Rattle.tables.specs.Call.{verdict, if_taken, may_rule, has_room, has_state, has_letter}
-use Rattle.tables.specs.Book.{Contents, size_of, place, unset, cleared, mark, opened, taken, left_by, left_by_all}
+use Rattle.tables.specs.Book.{Contents, size_of, place, unset, cleared, mark, opened, is_free, book_verdict, taken, left_by, left_by_all}
 use Rattle.tables.specs.Sheet.{drawn, width, entry_at, mean_at, leads, led_to, led_by, is_drawn, sheet_table}
-use Rattle.tables.specs.Sketch.{Lengths, lengths_of, Link, Sketch, blank, sketch_size, drawn_on, sketched, sketch_of, link_to, link_by, sketch_table}
+use Rattle.tables.specs.Sketch.{Lengths, lengths_of, Link, Sketch, blank, sketch_size, sketch_verdict, drawn_on, sketched, sketch_of, link_to, link_by, sketch_table}
 use Rattle.tables.specs.declared.call.Call.{Call}
 use Rattle.tables.specs.declared.call.Call.TheVariants.{Rule, State, Arc, Start}
 use Rattle.tables.proofs.InStep.{Holds, InStep}
@@ -256,14 +256,15 @@ start_in_step n s c q w h l =
 
 -- a call that is taken keeps the book in step
 pub taken_in_step : {W : Type 0} (n : Lengths) (s : Sketch W) (c : Contents W) (k : Call W) → InStep n s c
-    → verdict (size_of c) k ≡ None → InStep n (drawn_on s k) (taken c k)
+    → book_verdict c k ≡ None → InStep n (drawn_on s k) (taken c k)
 taken_in_step n s c (Rule m) h e = rule_in_step n s c m h (unless_none (may_rule (size_of c) m) 1 None e).0
 taken_in_step n s c (State f) h e = state_in_step n s c f h (unless_none (has_room (size_of c)) 5 None e).0
 taken_in_step n s c (Arc q a r w) h e =
-    let target : Option Told = unless (has_state (size_of c) r) 2 None in
+    let free : Option Told = unless (is_free c q a) 10 None in
+    let target : Option Told = unless (has_state (size_of c) r) 2 free in
     let x = unless_none (has_state (size_of c) q) 2 (unless (has_letter (size_of c) a) 3 target) e in
     let y = unless_none (has_letter (size_of c) a) 3 target x.1 in
-    let z = unless_none (has_state (size_of c) r) 2 None y.1 in
+    let z = unless_none (has_state (size_of c) r) 2 free y.1 in
     arc_in_step n s c q a r w h (ltb-true q c.count x.0) (ltb-true a c.letters y.0)
     (ltb-true r c.count z.0)
 taken_in_step n s c (Start q w) h e =
@@ -275,17 +276,47 @@ either_in_step : {W : Type 0} (n : Lengths) (s t : Sketch W) (c d : Contents W) 
 either_in_step n s t c d None h new = new refl
 either_in_step n s t c d (Some x) h new = h
 
+-- a place is unset exactly where it holds no link, since no state has the number of an unset target
+unset_same : {W : Type 0} (c : Contents W) (k : ℕ) (o : Option (Link W)) → c.count ≤ 4095 → Holds c k o
+    → eqb (get_or c.targets k unset) unset ≡ is_none o
+unset_same c k None few h = eq-eqb (get_or c.targets k unset) unset h
+unset_same c k (Some l) few h = ne_eqb (get_or c.targets k unset) unset (λ e. omega (arith, h.0, h.2, e))
+
+-- checks come to the same where what follows them does
+unless_same : (b : Bool) (n : ℕ) (x y : Option Told) → (b ≡ true → x ≡ y) → unless b n x ≡ unless b n y
+unless_same true n x y h = h refl
+unless_same false n x y h = refl
+
+-- a book refuses the same calls if it judges by the sketch which states and letters are free
+free_same : {W : Type 0} (n : Lengths) (s : Sketch W) (c : Contents W) (k : Call W) → InStep n s c
+    → book_verdict c k ≡ verdict (size_of c) (λ q a. is_none (s.arc q a)) k
+free_same n s c (Rule m) h = refl
+free_same n s c (State f) h = refl
+free_same n s c (Arc q a r w) h =
+    let before : Option Told = unless (is_free c q a) 10 None in
+    let after : Option Told = unless (is_none (s.arc q a)) 10 None in
+    let target : Option Told → Option Told = unless (has_state (size_of c) r) 2 in
+    unless_same (has_state (size_of c) q) 2 _ _
+    (λ e.
+    unless_same (has_letter (size_of c) a) 3 (target before) (target after)
+    (λ d.
+    ap (λ b. target (unless b 10 None))
+    (unset_same c (place c.letters q a) (s.arc q a) h.few_states
+    (h.arcs q a (ltb-true q c.count e) (ltb-true a c.letters d)))))
+free_same n s c (Start q w) h = refl
+
+-- a book and its sketch refuse the same calls
+pub same_verdict : {W : Type 0} (n : Lengths) (s : Sketch W) (c : Contents W) (k : Call W) → InStep n s c
+    → book_verdict c k ≡ sketch_verdict n s k
+same_verdict n s c k h =
+    free_same n s c k h ∙ ap (λ z. verdict z (λ q a. is_none (s.arc q a)) k) (same_size n s c h)
+
 -- a call, taken or refused, keeps the book in step
 pub step : {W : Type 0} (n : Lengths) (s : Sketch W) (c : Contents W) (k : Call W) → InStep n s c
     → InStep n (sketched n s k) (left_by c k)
 step n s c k h =
-    subst (λ z. InStep n (if_taken (verdict z k) (drawn_on s k) s) (left_by c k)) (same_size n s c h)
-    (either_in_step n s (drawn_on s k) c (taken c k) (verdict (size_of c) k) h (taken_in_step n s c k h))
-
--- a book and its sketch refuse the same calls
-pub same_verdict : {W : Type 0} (n : Lengths) (s : Sketch W) (c : Contents W) (k : Call W) → InStep n s c
-    → verdict (size_of c) k ≡ verdict (sketch_size n s) k
-same_verdict n s c k h = ap (λ z. verdict z k) (same_size n s c h)
+    subst (λ v. InStep n (if_taken v (drawn_on s k) s) (left_by c k)) (same_verdict n s c k h)
+    (either_in_step n s (drawn_on s k) c (taken c k) (book_verdict c k) h (taken_in_step n s c k h))
 
 -- a list of calls keeps the book in step
 pub all_steps : {W : Type 0} (n : Lengths) (s : Sketch W) (c : Contents W) (ks : List (Call W)) → InStep n s c

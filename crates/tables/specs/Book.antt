@@ -1,5 +1,5 @@
 -- What an open book holds, and what each call makes of it. Assumes nothing.
-use Rattle.std.specs.Prelude.{ℕ, zero, suc, ◌+◌, ◌*◌, Bool, cond, List, [], ◌∷◌, length, Result, slice_set}
+use Rattle.std.specs.Prelude.{ℕ, zero, suc, ◌+◌, ◌*◌, Bool, cond, List, [], ◌∷◌, length, Option, Result, ◌==◌, slice_index_or, slice_set}
 use Rattle.weights.specs.Refusal.{Told, judged}
 use Rattle.tables.specs.Call.{Size, verdict, if_taken}
 use Rattle.tables.specs.declared.call.Call.{Call}
@@ -18,7 +18,7 @@ pub record Contents (W : Type 0) : Type 0 where
 abbrev pub laid : {W : Type 0} → List ℕ → List W → List ℕ → ℕ → ℕ → Contents W
 laid ts ws ms s n = record { targets = ts; weights = ws; marks = ms; letters = s; count = n }
 
--- what refusals go by
+-- what refusals go by, but for its arcs
 abbrev pub size_of : {W : Type 0} → Contents W → Size
 size_of c =
     record {
@@ -50,9 +50,17 @@ mark f = cond f 1 0
 abbrev pub opened : {W : Type 0} → List ℕ → List W → List ℕ → Contents W
 opened ts ws ms = record { targets = slice_set ts 0 unset; weights = ws; marks = ms; letters = 1; count = 0 }
 
+-- arc (q, a) is not drawn: its target is unset, or has no place
+abbrev pub is_free : {W : Type 0} → Contents W → ℕ → ℕ → Bool
+is_free c q a = slice_index_or c.targets (place c.letters q a) unset == unset
+
+-- the refusal that a call meets, if any
+abbrev pub book_verdict : {W : Type 0} → Contents W → Call W → Option Told
+book_verdict c k = verdict (size_of c) (is_free c) k
+
 -- what a call answers
 abbrev pub answer_to : {W : Type 0} → Contents W → Call W → Result (Unit {0}) Told
-answer_to c k = judged (verdict (size_of c) k) tt
+answer_to c k = judged (book_verdict c k) tt
 
 -- what a call that is taken leaves
 abbrev pub taken : {W : Type 0} → Contents W → Call W → Contents W
@@ -84,7 +92,7 @@ taken c (Start q w) =
 
 -- what a call leaves, taken or refused
 abbrev pub left_by : {W : Type 0} → Contents W → Call W → Contents W
-left_by c k = if_taken (verdict (size_of c) k) (taken c k) c
+left_by c k = if_taken (book_verdict c k) (taken c k) c
 
 -- what a list of calls leaves, made one after another, and the answers that they get
 abbrev pub left_by_all : {W : Type 0} → Contents W → List (Call W) → Contents W

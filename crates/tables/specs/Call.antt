@@ -5,7 +5,7 @@ use Rattle.tables.specs.Table.{is_letter_count}
 use Rattle.tables.specs.declared.call.Call.{Call}
 use Rattle.tables.specs.declared.call.Call.TheVariants.{Rule, State, Arc, Start}
 
--- all that a refusal goes by: the lengths of the memories, the letters, and how many states there are
+-- what refusals go by, but for which arcs there are: the lengths of the memories, the letters, and how many states there are
 pub record Size : Type 0 where
   pub targets : ℕ
   pub weights : ℕ
@@ -34,12 +34,16 @@ abbrev pub has_room : Size → Bool
 has_room z =
     nat_lt z.count 4095 && has_places (record { targets = z.targets; weights = z.weights; marks = z.marks; letters = z.letters; count = z.count + 1 })
 
--- the refusal that a call meets, if any: the first in order
-abbrev pub verdict : {W : Type 0} → Size → Call W → Option Told
-verdict z (Rule s) = unless (may_rule z s) 1 None
-verdict z (State f) = unless (has_room z) 5 None
-verdict z (Arc q a r w) = unless (has_state z q) 2 (unless (has_letter z a) 3 (unless (has_state z r) 2 None))
-verdict z (Start q w) = unless (has_state z q) 2 None
+-- the refusal that a call meets, if any: the first in order. A state and a letter are free that have no arc yet.
+abbrev pub verdict : {W : Type 0} → Size → (ℕ → ℕ → Bool) → Call W → Option Told
+verdict z free (Rule s) = unless (may_rule z s) 1 None
+verdict z free (State f) = unless (has_room z) 5 None
+verdict z free (Arc q a r w) =
+    unless (has_state z q) 2
+    (unless (has_letter z a) 3
+    (unless (has_state z r) 2
+    (unless (free q a) 10 None)))
+verdict z free (Start q w) = unless (has_state z q) 2 None
 
 -- one of two: the first where a call is taken, the second where it is refused
 abbrev pub if_taken : {X : Type 0} → Option Told → X → X → X

@@ -1,6 +1,6 @@
 -- What a list of calls on a new book comes to, told by the lengths of the memories and the calls' arguments alone.
 -- Assumes nothing.
-use Rattle.std.specs.Prelude.{ℕ, ◌+◌, Bool, false, cond, ◌&&◌, List, [], ◌∷◌, ◌++◌, length, Some, None, Option, Result, ◌==◌, slice_index_or}
+use Rattle.std.specs.Prelude.{ℕ, ◌+◌, Bool, false, cond, ◌&&◌, List, [], ◌∷◌, ◌++◌, length, Some, None, Option, Result, ◌==◌, is_none, slice_index_or}
 use Rattle.weights.specs.Group.{Kind}
 use Rattle.weights.specs.Refusal.{Told, judged}
 use Rattle.tables.specs.Table.{Table}
@@ -33,7 +33,7 @@ pub record Sketch (W : Type 0) : Type 0 where
 abbrev pub blank : {W : Type 0} → Sketch W
 blank = record { letters = 1; finals = []; arc = λ q a. None; start = None }
 
--- what refusals go by, for memories of lengths n
+-- what refusals go by, but for its arcs, for memories of lengths n
 abbrev pub sketch_size : {W : Type 0} → Lengths → Sketch W → Size
 sketch_size n s =
     record {
@@ -44,7 +44,11 @@ sketch_size n s =
       count = length s.finals;
     }
 
--- the sketch after a call that is taken: what it sets stands in place of what was set before
+-- the refusal that a call meets, if any, for memories of lengths n: a state and a letter are free that have no link
+abbrev pub sketch_verdict : {W : Type 0} → Lengths → Sketch W → Call W → Option Told
+sketch_verdict n s k = verdict (sketch_size n s) (λ q a. is_none (s.arc q a)) k
+
+-- the sketch after a call that is taken: a start stands in place of an earlier one; an arc never does, since a second one is refused
 abbrev pub drawn_on : {W : Type 0} → Sketch W → Call W → Sketch W
 drawn_on s (Rule n) = record { letters = n; finals = s.finals; arc = s.arc; start = s.start }
 drawn_on s (State f) = record { letters = s.letters; finals = s.finals ++ (f ∷ []); arc = s.arc; start = s.start }
@@ -60,11 +64,11 @@ drawn_on s (Start q w) =
 
 -- the sketch after a call, taken or refused
 abbrev pub sketched : {W : Type 0} → Lengths → Sketch W → Call W → Sketch W
-sketched n s k = if_taken (verdict (sketch_size n s) k) (drawn_on s k) s
+sketched n s k = if_taken (sketch_verdict n s k) (drawn_on s k) s
 
 -- the answer to a call
 abbrev pub sketch_answer : {W : Type 0} → Lengths → Sketch W → Call W → Result (Unit {0}) Told
-sketch_answer n s k = judged (verdict (sketch_size n s) k) tt
+sketch_answer n s k = judged (sketch_verdict n s k) tt
 
 -- the sketch of a list of calls, and the answers that they get, one after another
 abbrev pub sketch_of : {W : Type 0} → Lengths → Sketch W → List (Call W) → Sketch W

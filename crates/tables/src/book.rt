@@ -1,11 +1,11 @@
 ghost use Rattle.std.specs.Prelude.{◌≡◌};
-ghost use Rattle.tables.specs.Book.{opened, size_of};
+ghost use Rattle.tables.specs.Book.{is_free, opened, size_of};
 ghost use Rattle.tables.specs.Call.{has_room};
 ghost use Rattle.tables.specs.Held.{held, written, Lent, Makes};
 ghost use Rattle.tables.specs.declared.call.Call.TheVariants.{Rule, State, Arc, Start};
 
 use crate::call::Call;
-use crate::memory::{UNSET, arc_place, clear, has_room, put};
+use crate::memory::{UNSET, arc_place, clear, get_or, has_room, put};
 use crate::sheet::Sheet;
 use crate::words::is_letter_count;
 use weights::{Refusal, Weight};
@@ -78,7 +78,15 @@ impl<'a, W: Weight> Book<'a, W> {
         )
     }
 
-    // Sets one arc. Refused: a state that is not in the book by 2, a letter by 3, then a target that is not in the book by 2.
+    // Whether a state and a letter have no arc yet.
+    fn is_free(&self, from: u16, letter: u8) -> bool
+        ensures { result ≡ is_free (written self.now) from letter }
+    {
+        get_or(self.targets, arc_place(self.letters, from, letter), &UNSET) == UNSET
+    }
+
+    // Draws one arc. Refused: a state that is not in the book by 2, a letter by 3, then a target that is not in the book by 2, and
+    // last a state and a letter that already have an arc by 10.
     pub fn arc(&mut self, from: u16, letter: u8, to: u16, weight: W) -> Result<(), Refusal>
         ensures { Makes self.old self.new (Arc from letter to weight) result }
     {
@@ -90,6 +98,9 @@ impl<'a, W: Weight> Book<'a, W> {
         }
         if to >= self.count {
             return Err(Refusal::NoState);
+        }
+        if !self.is_free(from, letter) {
+            return Err(Refusal::SecondArc);
         }
         let at = arc_place(self.letters, from, letter);
         put(self.targets, at, &to);

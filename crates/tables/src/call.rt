@@ -9,7 +9,7 @@ pub enum Call<W> {
     State {
         accepting: bool,
     },
-    // set one arc
+    // draw one arc
     Arc {
         from: u16,
         letter: u8,
