@@ -265,9 +265,9 @@ fn short_memories_are_refused_with_6(rt: HostRuntime) -> Result<(), Fail> {
     Ok(())
 }
 
-// Two states, of which the first leads to the second and that to itself; an arc that has no target is refused. The book's memory has
-// just room for the two. Only the empty word tells them apart, so the first is redirected. A memory that is too short to compile in is
-// refused before a call is made.
+// Two states, of which the first leads to the second and that to itself. An arc that has no target is refused, and so is a second arc of one
+// state and letter. The book's memory has just room for the two states. Only the empty word tells them apart, so the first is redirected. A
+// memory that is too short to compile in is refused before a call is made.
 #[test]
 fn calls_are_drawn_and_compiled(rt: HostRuntime) -> Result<(), Fail> {
     let unasked = Err(Refusal::NoCode);
@@ -292,6 +292,12 @@ fn calls_are_drawn_and_compiled(rt: HostRuntime) -> Result<(), Fail> {
             letter: 0,
             to: 1,
             weight: Check(5),
+        },
+        Call::Arc {
+            from: 1,
+            letter: 0,
+            to: 0,
+            weight: Check(9),
         },
         Call::Start {
             state: 0,
@@ -361,6 +367,7 @@ fn calls_are_drawn_and_compiled(rt: HostRuntime) -> Result<(), Fail> {
             Ok(()),
             Err(Refusal::NoState),
             Ok(()),
+            Err(Refusal::SecondArc),
             Ok(()),
         ]
     );

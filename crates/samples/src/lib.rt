@@ -2,6 +2,8 @@
 
 // Examples of the library in use, each refusal among them: tests, and functions that are proved and not run.
 #[cfg(test)]
+mod arcs;
+#[cfg(test)]
 mod books;
 #[cfg(test)]
 mod compiled;

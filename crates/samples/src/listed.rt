@@ -127,6 +127,36 @@ fn a_file_at_fault_is_refused(rt: HostRuntime) -> Result<(), Fail> {
     Ok(())
 }
 
+// A check draft of one state whose arc is drawn again is refused at the second; the start may be set again.
+#[test]
+fn an_arc_drawn_twice_is_refused(rt: HostRuntime) -> Result<(), Fail> {
+    let twice = listed(
+        rt.alloc(),
+        &[
+            1, 0, 2, 1, 1, 2, 0, 1, 1, 3, 0, 7, 0, 0, 0, 0, 0, 0, 5, 3, 0, 7, 0, 0, 0, 0, 0, 0, 5,
+            4, 0, 4, 0, 0, 0, 7,
+        ],
+    )?;
+    assert_eq!(rt; &twice[..], &b"refused 10 19\n"[..]);
+    let once = listed(
+        rt.alloc(),
+        &[
+            1, 0, 2, 1, 1, 2, 0, 1, 1, 3, 0, 7, 0, 0, 0, 0, 0, 0, 5, 4, 0, 4, 0, 0, 0, 3, 4, 0, 4,
+            0, 0, 0, 7,
+        ],
+    )?;
+    let listing = b"least 1
+hyper 1
+kernel 1
+agree 0
+start 0 7
+state 0 final
+arc 0 0 0 5
+";
+    assert_eq!(rt; &once[..], &listing[..]);
+    Ok(())
+}
+
 #[test]
 fn a_long_file_is_refused(rt: HostRuntime) -> Result<(), Fail> {
     let file = vec![in rt.alloc(); 0; 16_385]?;

@@ -17,7 +17,7 @@ fn opened_and_let_go() -> (u16, u16, u8)
     (targets[0], targets[1], marks[0])
 }
 
-// One state over one letter, with an arc to itself.
+// One state over one letter, with an arc to itself; a second one is refused and writes nothing.
 fn drawn_and_let_go() -> (u16, u8, u8)
     ensures { result ≡ (0, 9, 1) }
 {
@@ -28,6 +28,7 @@ fn drawn_and_let_go() -> (u16, u8, u8)
         let mut book = Book::open(&mut targets, &mut weights, &mut marks);
         let _ = book.state(true);
         let _ = book.arc(0, 0, 0, Check(9));
+        let _ = book.arc(0, 0, 0, Check(7));
     }
     (targets[1], weights[1].0, marks[0])
 }
