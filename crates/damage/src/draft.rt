@@ -73,11 +73,11 @@ impl Plan {
         }
     }
 
-    // An arc among so many states.
-    pub(crate) fn any_arc(self, random: &mut Random, states: u16) -> Field {
+    // The arc of a state and a letter, to one of so many states.
+    pub(crate) fn any_arc(self, random: &mut Random, from: u16, letter: u8, states: u16) -> Field {
         Field::Arc {
-            from: random.between(0, states),
-            letter: random.letter(self.letters),
+            from,
+            letter,
             to: random.between(0, states),
             code: self.code(random),
         }
@@ -91,7 +91,7 @@ impl Plan {
         }
     }
 
-    // The fields of a draft that is sound, unless letters or states are too many.
+    // The fields of a draft that is sound, unless letters or states are too many: each arc is drawn once.
     pub(crate) fn fields(
         self,
         random: &mut Random,
@@ -109,7 +109,9 @@ impl Plan {
             })?;
             if random.chance(early) {
                 let drawn = state.saturating_add(1);
-                fields.push(self.any_arc(random, drawn))?;
+                let from = random.between(0, drawn);
+                let letter = random.letter(self.letters);
+                add_arc(self.any_arc(random, from, letter, drawn), &mut fields)?;
                 fields.push(self.any_start(random, drawn))?;
             }
         }
@@ -148,12 +150,13 @@ impl Plan {
         };
         for letter in 0..self.letters {
             if !random.chance(self.undrawn) {
-                fields.push(Field::Arc {
+                let arc = Field::Arc {
                     from: state,
                     letter,
                     to: random.between(low, high),
                     code: self.code(random),
-                })?;
+                };
+                add_arc(arc, fields)?;
             }
         }
         Ok(())
@@ -179,17 +182,27 @@ impl Plan {
             ) = fields.get(place).copied()
             {
                 if from == copied && copied < state {
-                    fields.push(Field::Arc {
+                    let arc = Field::Arc {
                         from: state,
                         letter,
                         to,
                         code: self.kind.product(factor, code),
-                    })?;
+                    };
+                    add_arc(arc, fields)?;
                 }
             }
         }
         Ok(())
     }
+}
+
+// Adds an arc, unless its state and letter have one.
+fn add_arc(arc: Field, fields: &mut Vec<Field>) -> Result<(), AllocError> {
+    let place = arc.arc_place();
+    if !fields.iter().any(|field| field.arc_place() == place) {
+        fields.push(arc)?;
+    }
+    Ok(())
 }
 
 // The bytes of a file with these fields.

@@ -33,6 +33,36 @@ impl Field {
         }
     }
 
+    // The state and the letter of an arc.
+    pub(crate) fn arc_place(self) -> Option<(u16, u8)> {
+        match self {
+            Field::Arc { from, letter, .. } => Some((from, letter)),
+            _ => None,
+        }
+    }
+
+    // The field with each state moved on by so many.
+    pub(crate) fn moved_on(self, by: u16) -> Field {
+        match self {
+            Field::Arc {
+                from,
+                letter,
+                to,
+                code,
+            } => Field::Arc {
+                from: from.saturating_add(by),
+                letter,
+                to: to.saturating_add(by),
+                code,
+            },
+            Field::Start { state, code } => Field::Start {
+                state: state.saturating_add(by),
+                code,
+            },
+            _ => self,
+        }
+    }
+
     // Writes it at the end of a file.
     pub(crate) fn add_to(self, file: &mut Vec<u8>) -> Result<(), AllocError> {
         match self {

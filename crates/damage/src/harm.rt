@@ -2,6 +2,7 @@ use crate::draft::{Plan, file_of};
 use crate::field::Field;
 use random::Random;
 use std::alloc::{AllocError, Global};
+use std::collections::BTreeSet;
 
 // A kind of damage that is done to a file.
 #[derive(Clone, Copy, PartialEq, Eq, Debug)]
@@ -283,19 +284,57 @@ fn harm_bytes(
         Damage::Joined => {
             let fields = plan.fields(random, alloc)?;
             let head = usize::from(random.chance(60));
+            // mostly the states of the second come after those of the first; else it draws the arcs of the first again
+            let by = if random.chance(60) { plan.states } else { 0 };
             for field in fields.iter().skip(head) {
-                field.add_to(file)?;
+                field.moved_on(by).add_to(file)?;
             }
         },
-        Damage::Grown => grow(random, plan, file)?,
+        Damage::Grown => grow(random, plan, file, alloc)?,
         Damage::Emptied => file.clear(),
         _ => {},
     }
     Ok(())
 }
 
-// Adds arcs and starts, so many that the file has just so many bytes.
-fn grow(random: &mut Random, plan: Plan, file: &mut Vec<u8>) -> Result<(), AllocError> {
+// The states and letters whose arcs the file has, as far as its fields are well formed.
+fn arcs_in(file: &[u8], alloc: Global) -> Result<BTreeSet<(u16, u8)>, AllocError> {
+    let mut arcs = BTreeSet::new(alloc);
+    let mut offset = 0usize;
+    // each round but the last reads a field
+    for _ in 0..=file.len() {
+        let Some(field) = Field::at(file, offset) else {
+            break;
+        };
+        if let Some(place) = field.arc_place() {
+            arcs.insert(place)?;
+        }
+        offset = offset.saturating_add(field.size());
+    }
+    Ok(arcs)
+}
+
+// The states and letters of the plan whose arcs the file lacks.
+fn lacking_arcs(plan: Plan, file: &[u8], alloc: Global) -> Result<Vec<(u16, u8)>, AllocError> {
+    let drawn = arcs_in(file, alloc)?;
+    let mut lacking = Vec::new(alloc);
+    for from in 0..plan.states {
+        for letter in 0..plan.letters {
+            if !drawn.contains(&(from, letter)) {
+                lacking.push((from, letter))?;
+            }
+        }
+    }
+    Ok(lacking)
+}
+
+// Adds arcs that the file lacks, starts and some states, so many that the file has just so many bytes, unless it lacks but a few.
+fn grow(
+    random: &mut Random,
+    plan: Plan,
+    file: &mut Vec<u8>,
+    alloc: Global,
+) -> Result<(), AllocError> {
     let wanted = match random.between(0, 6) {
         0 => random.between(16_386, 20_000),
         1 => 16_383,
@@ -303,14 +342,27 @@ fn grow(random: &mut Random, plan: Plan, file: &mut Vec<u8>) -> Result<(), Alloc
         _ => 16_384,
     };
     let more = usize::from(wanted).saturating_sub(file.len());
-    // starts have 7 bytes and arcs 10
-    let starts = more.wrapping_mul(3) % 10;
-    let arcs = more.saturating_sub(starts.saturating_mul(7)) / 10;
+    let lacking = lacking_arcs(plan, file, alloc)?;
+    // arcs have 10 bytes, states 4 and starts 7, and up to six states leave a multiple of 7
+    let most = lacking.len().min(more.saturating_sub(24) / 10);
+    let arcs = place(random, most.saturating_add(1));
+    let rest = more.saturating_sub(arcs.saturating_mul(10));
+    let states = if rest < 24 {
+        0
+    } else {
+        rest.wrapping_mul(2) % 7
+    };
+    let starts = rest.saturating_sub(states.saturating_mul(4)) / 7;
+    for (from, letter) in lacking.iter().take(arcs) {
+        let arc = plan.any_arc(random, *from, *letter, plan.states);
+        arc.add_to(file)?;
+    }
+    for _ in 0..states {
+        let mark = u8::from(random.chance(50));
+        Field::State { mark }.add_to(file)?;
+    }
     for _ in 0..starts {
         plan.any_start(random, plan.states).add_to(file)?;
-    }
-    for _ in 0..arcs {
-        plan.any_arc(random, plan.states).add_to(file)?;
     }
     Ok(())
 }

@@ -15,14 +15,14 @@ use anyhow::bail;
 use harm::DAMAGES;
 use kind::Kind;
 use std::env;
-use tally::{Row, Tally};
+use tally::{NUMBERS, Row, Tally};
 use trial::{MEMORY, trial};
 
 fn print_row(rt: &HostRuntime, name: &str, row: Row) -> anyhow::Result<()> {
     let files = row.files();
     let listed = row.get(0);
     print!(rt; "{name:<34}{files:>8}{listed:>8}")?;
-    for number in 1..8u8 {
+    for number in NUMBERS {
         let refused = row.get(number);
         print!(rt; "{refused:>8}")?;
     }
@@ -32,10 +32,12 @@ fn print_row(rt: &HostRuntime, name: &str, row: Row) -> anyhow::Result<()> {
 
 // Prints the counts.
 fn print_counts(rt: &HostRuntime, tally: &Tally) -> anyhow::Result<()> {
-    println!(rt;
-        "{:<34}{:>8}{:>8}{:>8}{:>8}{:>8}{:>8}{:>8}{:>8}{:>8}",
-        "", "files", "listed", "no. 1", "no. 2", "no. 3", "no. 4", "no. 5", "no. 6", "no. 7"
-    )?;
+    print!(rt; "{:<34}{:>8}{:>8}", "", "files", "listed")?;
+    for number in NUMBERS {
+        let heading = format!(in rt.alloc(); "no. {number}")?;
+        print!(rt; "{heading:>8}")?;
+    }
+    println!(rt; "")?;
     print_row(rt, "all", tally.all)?;
     print_row(rt, "plain", tally.of_kind(Kind::Plain))?;
     print_row(rt, "check", tally.of_kind(Kind::Check))?;

@@ -128,7 +128,10 @@ impl Drawing {
                 if letter >= self.letters {
                     return Some(3);
                 }
-                (to >= self.count()).then_some(2)
+                if to >= self.count() {
+                    return Some(2);
+                }
+                self.arcs.contains_key(&(from, letter)).then_some(10)
             },
             Field::Start { state, code } => {
                 if !self.kind.has_code(code) {

@@ -1,15 +1,18 @@
 use crate::harm::Damage;
 use crate::kind::Kind;
 
+// The numbers by which a file may be refused.
+pub(crate) const NUMBERS: [u8; 8] = [1, 2, 3, 4, 5, 6, 7, 10];
+
 // How often files were listed, at 0, and refused with each number.
 #[derive(Clone, Copy)]
 pub(crate) struct Row {
-    counts: [u64; 8],
+    counts: [u64; 11],
 }
 
 impl Row {
     pub(crate) fn new() -> Row {
-        Row { counts: [0; 8] }
+        Row { counts: [0; 11] }
     }
 
     fn add(&mut self, number: u8) {

@@ -7,7 +7,10 @@ use weights::Refusal;
 
 // What of the two is compared.
 #[derive(Clone, Copy, PartialEq, Eq, Debug)]
-enum Part {
+pub(crate) enum Part {
+    ArcAnswer,
+    ArcTarget,
+    ArcWeight,
     Answer,
     Report,
     LeastTarget,
@@ -23,6 +26,9 @@ enum Part {
 impl fmt::Display for Part {
     fn fmt<W: fmt::Write>(&self, f: &mut fmt::Formatter<W>) -> fmt::Result {
         f.write_str(match self {
+            Part::ArcAnswer => "answer to an arc",
+            Part::ArcTarget => "target of a drawn table",
+            Part::ArcWeight => "weight of a drawn table",
             Part::Answer => "answer with a short memory",
             Part::Report => "report",
             Part::LeastTarget => "target of the least table",
@@ -37,12 +43,12 @@ impl fmt::Display for Part {
     }
 }
 
-// The first place where the compiler and the reference differ.
+// The first place where the library and the reference differ.
 #[derive(Clone, Copy)]
 pub(crate) struct Difference {
     part: Part,
     place: usize,
-    compiler: usize,
+    library: usize,
     reference: usize,
 }
 
@@ -50,19 +56,49 @@ impl fmt::Display for Difference {
     fn fmt<W: fmt::Write>(&self, f: &mut fmt::Formatter<W>) -> fmt::Result {
         write!(
             f,
-            "{}, place {}: compiler {}, reference {}",
-            self.part, self.place, self.compiler, self.reference
+            "{}, place {}: library {}, reference {}",
+            self.part, self.place, self.library, self.reference
         )
     }
 }
 
-// The difference to refusal 6, which the compiler owes where a memory is too short.
-pub(crate) fn answer_difference(refusal: Option<Refusal>) -> Option<Difference> {
-    let number = match refusal {
-        Some(refusal) => refusal.number(),
+// The difference between an answer and the one that is wanted, by the numbers of their refusals.
+pub(crate) fn answer_difference(
+    part: Part,
+    place: usize,
+    answer: Option<Refusal>,
+    wanted: Option<Refusal>,
+) -> Option<Difference> {
+    let library = number(answer);
+    let reference = number(wanted);
+    (library != reference).then_some(Difference {
+        part,
+        place,
+        library,
+        reference,
+    })
+}
+
+// The number of a refusal, 0 for none.
+fn number(refusal: Option<Refusal>) -> usize {
+    match refusal {
+        Some(refusal) => usize::from(refusal.number()),
         None => 0,
-    };
-    bytes(Part::Answer, &[number], &[Refusal::ShortMemory.number()])
+    }
+}
+
+// The first difference between the arcs of a closed book and those that are wanted, by state and letter.
+pub(crate) fn arcs_difference<W: Element>(
+    targets: &[u16],
+    weights: &[W],
+    wanted_targets: &[usize],
+    wanted_weights: &[W],
+) -> Option<Difference> {
+    numbers(Part::ArcTarget, targets, wanted_targets).or(elements(
+        Part::ArcWeight,
+        weights,
+        wanted_weights,
+    ))
 }
 
 // The first difference between what both make of a source.
@@ -150,7 +186,7 @@ fn numbers(part: Part, made: &[u16], wanted: &[usize]) -> Option<Difference> {
             return Some(Difference {
                 part,
                 place,
-                compiler: usize::from(*made),
+                library: usize::from(*made),
                 reference: *wanted,
             });
         }
@@ -164,7 +200,7 @@ fn bytes(part: Part, made: &[u8], wanted: &[u8]) -> Option<Difference> {
             return Some(Difference {
                 part,
                 place,
-                compiler: usize::from(*made),
+                library: usize::from(*made),
                 reference: usize::from(*wanted),
             });
         }
@@ -178,7 +214,7 @@ fn elements<W: Element>(part: Part, made: &[W], wanted: &[W]) -> Option<Differen
             return Some(Difference {
                 part,
                 place,
-                compiler: made.shown(),
+                library: made.shown(),
                 reference: wanted.shown(),
             });
         }

@@ -193,7 +193,8 @@ impl<W: Element> Draft<W> {
         }
     }
 
-    // The calls that draw it, some of them twice over with other arguments and, where there is noise, some that a book refuses.
+    // The calls that draw it. Where there is noise there are others among them: some that a book refuses, a start before the planned one, and
+    // arcs, of which one that comes before the planned arc of its state and letter stays in place of it.
     pub(crate) fn calls(
         &self,
         random: &mut Random,

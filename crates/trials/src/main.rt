@@ -1,7 +1,8 @@
 #![tactic(auto)]
 
-// Draws tables that look random, has the compiler and the reference make the least and the hyper table of each, and compares them. The
-// arguments are how many tables, and the number of the first.
+// Draws tables that look random, has the compiler and the reference make the least and the hyper table of each, and compares them; and
+// compares each book that is drawn with the first arcs of its calls. The arguments are how many tables, and the number of the first.
+mod arcs;
 mod compare;
 mod draft;
 mod element;

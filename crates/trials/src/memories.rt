@@ -1,3 +1,6 @@
+use crate::arcs::FirstArcs;
+use crate::compare::Difference;
+use crate::element::Element;
 use std::alloc::{AllocError, Global};
 use tables::{Book, Call, Sheet, make};
 use weights::{Refusal, Weight};
@@ -45,28 +48,45 @@ pub(crate) struct Answers {
     pub(crate) refused: bool,
     // a state was refused
     pub(crate) full: bool,
+    // arcs were drawn again, so often, and of these so often with another target or weight
+    pub(crate) redrawn: usize,
+    pub(crate) redrawn_otherwise: usize,
+    // where the book and the first arcs differ
+    pub(crate) difference: Option<Difference>,
 }
 
-// Makes the calls on a new book over the memories.
-pub(crate) fn draw<'a, W: Weight>(
+// Makes the calls on a new book over the memories, and compares it with the first arcs of the calls.
+pub(crate) fn draw<'a, W: Element>(
     memories: &'a mut Memories<W>,
     calls: &[Call<W>],
-) -> (Sheet<'a, W>, Answers) {
+    alloc: Global,
+) -> Result<(Sheet<'a, W>, Answers), AllocError> {
     let Memories {
         targets,
         weights,
         marks,
     } = memories;
     let mut book = Book::open(targets, weights, marks);
+    let mut arcs = FirstArcs::new(alloc);
     let mut answers = Answers {
         refused: false,
         full: false,
+        redrawn: 0,
+        redrawn_otherwise: 0,
+        difference: None,
     };
-    for call in calls.iter() {
-        if let Err(refusal) = make(&mut book, *call) {
+    for (number, call) in calls.iter().enumerate() {
+        let answer = make(&mut book, *call);
+        if let Err(refusal) = answer {
             answers.refused = true;
             answers.full |= refusal == Refusal::NoRoom;
         }
+        let difference = arcs.note(number, *call, answer)?;
+        answers.difference = answers.difference.or(difference);
     }
-    (book.close(), answers)
+    let sheet = book.close();
+    answers.redrawn = arcs.redrawn;
+    answers.redrawn_otherwise = arcs.redrawn_otherwise;
+    answers.difference = answers.difference.or(arcs.compared(&sheet, alloc)?);
+    Ok((sheet, answers))
 }

@@ -13,6 +13,8 @@ pub(crate) enum Count {
     Boths,
     Piles,
     Refused,
+    Redrawn,
+    RedrawnOtherwise,
     NoStates,
     ShortMemories,
     FullBooks,
@@ -26,7 +28,7 @@ pub(crate) enum Count {
 }
 
 // Each of them, with its name.
-pub(crate) const COUNTS: [(Count, &str); 19] = [
+pub(crate) const COUNTS: [(Count, &str); 21] = [
     (Count::Tables, "tables"),
     (Count::States, "their states"),
     (Count::LeastStates, "states of the least tables"),
@@ -36,6 +38,11 @@ pub(crate) const COUNTS: [(Count, &str); 19] = [
     (Count::Boths, "boths"),
     (Count::Piles, "piles of fold and both"),
     (Count::Refused, "books that refused a call"),
+    (Count::Redrawn, "arcs drawn again"),
+    (
+        Count::RedrawnOtherwise,
+        "of these with another target or weight",
+    ),
     (Count::NoStates, "books with no states"),
     (Count::ShortMemories, "books over memories too short"),
     (Count::FullBooks, "books of 4095 states"),
@@ -53,12 +60,12 @@ pub(crate) const COUNTS: [(Count, &str); 19] = [
 
 #[derive(Clone, Copy)]
 pub(crate) struct Tally {
-    counts: [u64; 19],
+    counts: [u64; 21],
 }
 
 impl Tally {
     pub(crate) fn new() -> Tally {
-        Tally { counts: [0; 19] }
+        Tally { counts: [0; 21] }
     }
 
     pub(crate) fn get(&self, count: Count) -> u64 {

@@ -1,4 +1,4 @@
-use crate::compare::{Difference, answer_difference, first_difference};
+use crate::compare::{Difference, Part, answer_difference, first_difference};
 use crate::draft::{Draft, any_calls};
 use crate::element::Element;
 use crate::made::{MEMORIES, Room};
@@ -9,6 +9,7 @@ use reference::compile_by_definition;
 use sources::{Both, Fold, Ring};
 use std::alloc::{AllocError, Global};
 use tables::{Call, Sheet, Source};
+use weights::Refusal;
 
 // Draws a table and has both make the tables of it. The answer is the first difference.
 pub(crate) fn trial<W: Element>(
@@ -24,8 +25,11 @@ pub(crate) fn trial<W: Element>(
     if random.chance(5) {
         memories.shorten(u64::from(random.between(0, 3)));
     }
-    let (sheet, answers) = draw(&mut memories, &plan.calls);
+    let (sheet, answers) = draw(&mut memories, &plan.calls, alloc)?;
     note(tally, answers, sheet.states());
+    if answers.difference.is_some() {
+        return Ok(answers.difference);
+    }
     pile(random, sheet, tally, alloc)
 }
 
@@ -72,9 +76,15 @@ fn drawn_plan<W: Element>(
 
 fn note(tally: &mut Tally, answers: Answers, states: u16) {
     tally.add_if(Count::Refused, answers.refused);
+    note_redrawn(tally, answers);
     tally.add_if(Count::NoStates, states == 1);
     tally.add_if(Count::FullBooks, states == 4096);
     tally.add_if(Count::ShortMemories, answers.full && states < 4096);
+}
+
+fn note_redrawn(tally: &mut Tally, answers: Answers) {
+    tally.add(Count::Redrawn, answers.redrawn);
+    tally.add(Count::RedrawnOtherwise, answers.redrawn_otherwise);
 }
 
 // Tries the sheet, or a pile over it.
@@ -133,7 +143,11 @@ fn beside_another<W: Element>(
     let draft = Draft::loose(random, sheet.letters(), 4, alloc)?;
     let calls = draft.calls(random, alloc)?;
     let mut memories = Memories::new(draft.states(), sheet.letters(), alloc)?;
-    let (other, _) = draw(&mut memories, &calls);
+    let (other, answers) = draw(&mut memories, &calls, alloc)?;
+    note_redrawn(tally, answers);
+    if answers.difference.is_some() {
+        return Ok(answers.difference);
+    }
     compared(&Both::new::<W>(other, sheet)?, tally, alloc)
 }
 
@@ -171,7 +185,12 @@ fn compared<W: Element, S: Source<W>>(
     tally.add_table(source.states(), &wanted);
     let mut short = Room::new(source, alloc)?;
     short.shorten(memory);
-    let refused = answer_difference(short.compile(source).err());
+    let refused = answer_difference(
+        Part::Answer,
+        0,
+        short.compile(source).err(),
+        Some(Refusal::ShortMemory),
+    );
     let made = Room::new(source, alloc)?.compile(source)?;
     Ok(refused.or(first_difference(&made, &wanted, alloc)?))
 }
