@@ -9,7 +9,7 @@ use Rattle.weights.proofs.Judging.{unless_none}
 use Rattle.tables.specs.Call.{verdict, if_taken, may_rule, has_room, has_state, has_letter}
 use Rattle.tables.specs.Book.{Contents, size_of, place, unset, cleared, mark, opened, is_free, book_verdict, taken, left_by, left_by_all}
 use Rattle.tables.specs.Sheet.{drawn, width, entry_at, mean_at, leads, led_to, led_by, is_drawn, sheet_table}
-use Rattle.tables.specs.Sketch.{Lengths, lengths_of, Link, Sketch, blank, sketch_size, sketch_verdict, drawn_on, sketched, sketch_of, link_to, link_by, sketch_table}
+use Rattle.tables.specs.Sketch.{Lengths, lengths_of, Link, Sketch, blank, sketch_size, is_undrawn, sketch_verdict, drawn_on, sketched, sketch_of, link_to, link_by, sketch_table}
 use Rattle.tables.specs.declared.call.Call.{Call}
 use Rattle.tables.specs.declared.call.Call.TheVariants.{Rule, State, Arc, Start}
 use Rattle.tables.proofs.InStep.{Holds, InStep}
@@ -289,12 +289,12 @@ unless_same false n x y h = refl
 
 -- a book refuses the same calls if it judges by the sketch which states and letters are free
 free_same : {W : Type 0} (n : Lengths) (s : Sketch W) (c : Contents W) (k : Call W) → InStep n s c
-    → book_verdict c k ≡ verdict (size_of c) (λ q a. is_none (s.arc q a)) k
+    → book_verdict c k ≡ verdict (size_of c) (is_undrawn s) k
 free_same n s c (Rule m) h = refl
 free_same n s c (State f) h = refl
 free_same n s c (Arc q a r w) h =
     let before : Option Told = unless (is_free c q a) 10 None in
-    let after : Option Told = unless (is_none (s.arc q a)) 10 None in
+    let after : Option Told = unless (is_undrawn s q a) 10 None in
     let target : Option Told → Option Told = unless (has_state (size_of c) r) 2 in
     unless_same (has_state (size_of c) q) 2 _ _
     (λ e.
@@ -309,7 +309,7 @@ free_same n s c (Start q w) h = refl
 pub same_verdict : {W : Type 0} (n : Lengths) (s : Sketch W) (c : Contents W) (k : Call W) → InStep n s c
     → book_verdict c k ≡ sketch_verdict n s k
 same_verdict n s c k h =
-    free_same n s c k h ∙ ap (λ z. verdict z (λ q a. is_none (s.arc q a)) k) (same_size n s c h)
+    free_same n s c k h ∙ ap (λ z. verdict z (is_undrawn s) k) (same_size n s c h)
 
 -- a call, taken or refused, keeps the book in step
 pub step : {W : Type 0} (n : Lengths) (s : Sketch W) (c : Contents W) (k : Call W) → InStep n s c

@@ -18,7 +18,7 @@ pub record Contents (W : Type 0) : Type 0 where
 abbrev pub laid : {W : Type 0} → List ℕ → List W → List ℕ → ℕ → ℕ → Contents W
 laid ts ws ms s n = record { targets = ts; weights = ws; marks = ms; letters = s; count = n }
 
--- what refusals go by, but for its arcs
+-- what the refusals of a book go by, but that of a second arc
 abbrev pub size_of : {W : Type 0} → Contents W → Size
 size_of c =
     record {

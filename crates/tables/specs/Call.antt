@@ -5,7 +5,7 @@ use Rattle.tables.specs.Table.{is_letter_count}
 use Rattle.tables.specs.declared.call.Call.{Call}
 use Rattle.tables.specs.declared.call.Call.TheVariants.{Rule, State, Arc, Start}
 
--- what refusals go by, but for which arcs there are: the lengths of the memories, the letters, and how many states there are
+-- all that refusals go by, but that of a second arc: the lengths of the memories, the letters, and how many states there are
 pub record Size : Type 0 where
   pub targets : ℕ
   pub weights : ℕ

@@ -33,7 +33,7 @@ pub record Sketch (W : Type 0) : Type 0 where
 abbrev pub blank : {W : Type 0} → Sketch W
 blank = record { letters = 1; finals = []; arc = λ q a. None; start = None }
 
--- what refusals go by, but for its arcs, for memories of lengths n
+-- what the refusals go by, but that of a second arc, for memories of lengths n
 abbrev pub sketch_size : {W : Type 0} → Lengths → Sketch W → Size
 sketch_size n s =
     record {
@@ -44,9 +44,13 @@ sketch_size n s =
       count = length s.finals;
     }
 
--- the refusal that a call meets, if any, for memories of lengths n: a state and a letter are free that have no link
+-- arc (q, a) is not drawn
+abbrev pub is_undrawn : {W : Type 0} → Sketch W → ℕ → ℕ → Bool
+is_undrawn s q a = is_none (s.arc q a)
+
+-- the refusal that a call meets, if any, for memories of lengths n
 abbrev pub sketch_verdict : {W : Type 0} → Lengths → Sketch W → Call W → Option Told
-sketch_verdict n s k = verdict (sketch_size n s) (λ q a. is_none (s.arc q a)) k
+sketch_verdict n s k = verdict (sketch_size n s) (is_undrawn s) k
 
 -- the sketch after a call that is taken: a start stands in place of an earlier one; an arc never does, since a second one is refused
 abbrev pub drawn_on : {W : Type 0} → Sketch W → Call W → Sketch W
