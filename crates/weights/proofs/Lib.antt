@@ -1,4 +1,4 @@
-pub mod Numbers
 pub mod Groups
 pub mod Coding
 pub mod Judging
+pub mod Rounds

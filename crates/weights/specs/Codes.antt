@@ -1,10 +1,11 @@
--- The codes of the kinds: plain has 0, check 1 to 256, wheel 0 to 719. Assumes nothing.
+-- The codes of the kinds: plain has 0, check 1 to 256, wheel 0 to 719, beam wheel 0 to 1439. Assumes nothing.
 use Rattle.std.specs.Prelude.{ℕ, zero, suc, ◌%◌, Bool, true, false, cond, Some, None, Option, ◌==◌, nat_lt}
 use Rattle.weights.specs.Check.{is_unit, number_of}
 use Rattle.weights.specs.Group.{Kind}
 use Rattle.weights.specs.declared.plain.Plain.{Plain}
 use Rattle.weights.specs.declared.check.Check.{Check}
 use Rattle.weights.specs.declared.wheel.Wheel.{Wheel}
+use Rattle.weights.specs.declared.beam_wheel.BeamWheel.{BeamWheel}
 
 -- x where the test holds
 abbrev pub within : {X : Type 0} → Bool → X → Option X
@@ -44,3 +45,7 @@ check_codes =
 
 abbrev pub wheel_codes : Codes Wheel
 wheel_codes = record { number = 2; element = λ c. within (nat_lt c 720) (record { 0 = c }); code_of = λ x. x.0 % 720 }
+
+abbrev pub beam_wheel_codes : Codes BeamWheel
+beam_wheel_codes =
+    record { number = 3; element = λ c. within (nat_lt c 1440) (record { 0 = c }); code_of = λ x. x.0 % 1440 }

@@ -1,11 +1,14 @@
--- The wheel: places below a fixed number, added round. The group is given for every number of places. Assumes nothing.
+-- The wheels: places below a fixed number, added round. The group is given for every number of places. Assumes nothing.
 use Rattle.std.specs.Prelude.{◌≡◌, ℕ, ◌+◌, ◌-◌, ◌%◌, ◌<◌, nat_lt}
+use Rattle.std.specs.NonZero.{non_zero_u16_get}
+use Rattle.std.specs.declared.num.NonZeroU16.{NonZeroU16}
 use Rattle.std.proofs.Common.{sym, ap, ◌∙◌, add_assoc, add_comm, zero-add, mod-lt, mod-eq_of_lt, arith, lit<}
 use Rattle.std.proofs.Math.Nat.{mod-add-mod, add-mod-mod, add-mod_right}
 use Rattle.std.proofs.lemmas.Bool.{lt-ltb, ltb-true}
 use Rattle.weights.specs.Group.{Group, Kind, Commutes}
 use Rattle.weights.specs.Numbers.{Chosen, chosen_path, chosen_decide}
 use Rattle.weights.specs.declared.wheel.Wheel.{Wheel}
+use Rattle.weights.specs.declared.beam_wheel.BeamWheel.{BeamWheel}
 
 -- one of k places
 abbrev pub Place : ℕ → Type 0
@@ -56,9 +59,24 @@ module _ (k : ℕ) (pos : 0 < k) where
   pub places_commute : Commutes places
   places_commute x y = chosen_path _ _ (ap (λ n. n % k) (add_comm x.at y.at))
 
+-- the group of n places, for a number n that is not 0
+abbrev pub wheel_of : NonZeroU16 → Group
+wheel_of n = places (non_zero_u16_get n) n.ok
+
+-- the place of a number on it
+abbrev pub place_on : (n : NonZeroU16) → ℕ → Place (non_zero_u16_get n)
+place_on n = place (non_zero_u16_get n) n.ok
+
 -- the place of a number on the wheel of 720 places, which an element means
 abbrev pub wheel_place : ℕ → Place 720
 wheel_place n = place 720 (lit< tt) n
 
 abbrev pub wheel_kind : Kind Wheel
 wheel_kind = record { group = places 720 (lit< tt); mean = λ w. wheel_place w.0 }
+
+-- the place of a number on the beam wheel, which has 1,440 places: two turns of 720
+abbrev pub beam_wheel_place : ℕ → Place 1440
+beam_wheel_place n = place 1440 (lit< tt) n
+
+abbrev pub beam_wheel_kind : Kind BeamWheel
+beam_wheel_kind = record { group = places 1440 (lit< tt); mean = λ w. beam_wheel_place w.0 }
