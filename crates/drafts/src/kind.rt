@@ -2,7 +2,7 @@ ghost use Rattle.std.specs.Prelude.{◌≡◌, Some, slice_get};
 ghost use Rattle.drafts.specs.FileKind.{kind_of, kind_name};
 
 use std::fmt;
-use weights::{Check, Coded, Wheel};
+use weights::{BeamWheel, Check, Coded, Wheel};
 
 // The kind of weights that a draft file has.
 #[derive(Clone, Copy, PartialEq, Eq, Debug)]
@@ -10,6 +10,7 @@ pub enum FileKind {
     Plain,
     Check,
     Wheel,
+    BeamWheel,
 }
 
 impl FileKind {
@@ -20,6 +21,7 @@ impl FileKind {
         match bytes.get(3) {
             Some(kind) if *kind == Check::kind_number() => FileKind::Check,
             Some(kind) if *kind == Wheel::kind_number() => FileKind::Wheel,
+            Some(kind) if *kind == BeamWheel::kind_number() => FileKind::BeamWheel,
             _ => FileKind::Plain,
         }
     }
@@ -33,6 +35,7 @@ impl fmt::Display for FileKind {
             FileKind::Plain => "plain",
             FileKind::Check => "check",
             FileKind::Wheel => "wheel",
+            FileKind::BeamWheel => "beam wheel",
         })
     }
 }

@@ -4,10 +4,10 @@ use Rattle.std.specs.List.{range_with_len, flat_map}
 use Rattle.std.proofs.lemmas.List.{flat_map_more, length-replicate}
 use Rattle.std.proofs.lemmas.Nat.{div_below, mod_below}
 use Rattle.weights.specs.Check.{check_kind}
-use Rattle.weights.specs.Codes.{Codes, code_for, plain_codes, check_codes, wheel_codes}
+use Rattle.weights.specs.Codes.{Codes, code_for, plain_codes, check_codes, wheel_codes, beam_wheel_codes}
 use Rattle.weights.specs.Group.{Group, Kind}
 use Rattle.weights.specs.Plain.{plain_kind}
-use Rattle.weights.specs.Wheel.{wheel_kind}
+use Rattle.weights.specs.Wheel.{wheel_kind, beam_wheel_kind}
 use Rattle.tables.specs.Book.{opened}
 use Rattle.tables.specs.Sheet.{sheet_lawful}
 use Rattle.tables.specs.Sketch.{Sketch, sketch_table}
@@ -18,7 +18,7 @@ use Rattle.drafts.specs.Fault.{Blame}
 use Rattle.drafts.specs.FileKind.{kind_of}
 use Rattle.drafts.specs.Sketched.{draft_sketch}
 use Rattle.drafts.specs.declared.kind.FileKind.{FileKind}
-use Rattle.drafts.specs.declared.kind.FileKind.TheVariants.{Plain, Check, Wheel}
+use Rattle.drafts.specs.declared.kind.FileKind.TheVariants.{Plain, Check, Wheel, BeamWheel}
 use Rattle.drafts.proofs.Sketching.{Draws}
 use Rattle.theory.specs.Hyper.{Hyper, count_below}
 use Rattle.theory.specs.Runs.{Closed}
@@ -160,6 +160,7 @@ one_text_of : (kind : FileKind) (bs x y : List ℕ) → TextOf kind bs x → Tex
 one_text_of Plain bs x y = one_kind_text plain_kind plain_codes (record {}) bs x y
 one_text_of Check bs x y = one_kind_text check_kind check_codes (record { 0 = 1 }) bs x y
 one_text_of Wheel bs x y = one_kind_text wheel_kind wheel_codes (record { 0 = 0 }) bs x y
+one_text_of BeamWheel bs x y = one_kind_text beam_wheel_kind beam_wheel_codes (record { 0 = 0 }) bs x y
 
 pub one_text : (bs x y : List ℕ) → FileText bs x → FileText bs y → x ≡ y
 one_text bs x y =

@@ -1,17 +1,17 @@
 -- The text that a draft file is listed as. Assumes nothing.
 use Rattle.std.specs.Prelude.{◌≡◌, ℕ, ◌-◌, ◌*◌, ◌<◌, Bool, List, ◌++◌, length, codes, Ok, Err, Result, nat_lt, slice_get}
 use Rattle.weights.specs.Check.{check_kind}
-use Rattle.weights.specs.Codes.{Codes, plain_codes, check_codes, wheel_codes}
+use Rattle.weights.specs.Codes.{Codes, plain_codes, check_codes, wheel_codes, beam_wheel_codes}
 use Rattle.weights.specs.Group.{Kind}
 use Rattle.weights.specs.Plain.{plain_kind}
-use Rattle.weights.specs.Wheel.{wheel_kind}
+use Rattle.weights.specs.Wheel.{wheel_kind, beam_wheel_kind}
 use Rattle.tables.specs.Sketch.{Lengths, Sketch, sketch_table}
 use Rattle.tables.specs.Table.{Table}
 use Rattle.drafts.specs.Fault.{Blame}
 use Rattle.drafts.specs.FileKind.{kind_of}
 use Rattle.drafts.specs.Sketched.{draft_sketch}
 use Rattle.drafts.specs.declared.kind.FileKind.{FileKind}
-use Rattle.drafts.specs.declared.kind.FileKind.TheVariants.{Plain, Check, Wheel}
+use Rattle.drafts.specs.declared.kind.FileKind.TheVariants.{Plain, Check, Wheel, BeamWheel}
 use Rattle.theory.specs.Hyper.{Hyper, count_below}
 use Rattle.theory.specs.Kernel.{Kernel, Preamble}
 use Rattle.theory.specs.Least.{Least}
@@ -55,6 +55,7 @@ abbrev pub TextOf : FileKind → List ℕ → List ℕ → Type 0
 TextOf Plain bs text = KindText plain_kind plain_codes bs text
 TextOf Check bs text = KindText check_kind check_codes bs text
 TextOf Wheel bs text = KindText wheel_kind wheel_codes bs text
+TextOf BeamWheel bs text = KindText beam_wheel_kind beam_wheel_codes bs text
 
 -- the text of a file; its kind is told at offset 3, and a file of more than 16384 bytes is refused
 abbrev pub FileText : List ℕ → List ℕ → Type 0

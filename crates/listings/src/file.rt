@@ -1,8 +1,8 @@
 ghost use Rattle.std.specs.Prelude.{◌*◌, ◌≤◌, length};
 ghost use Rattle.weights.specs.Check.{check_kind};
-ghost use Rattle.weights.specs.Codes.{plain_codes, check_codes, wheel_codes};
+ghost use Rattle.weights.specs.Codes.{plain_codes, check_codes, wheel_codes, beam_wheel_codes};
 ghost use Rattle.weights.specs.Plain.{plain_kind};
-ghost use Rattle.weights.specs.Wheel.{wheel_kind};
+ghost use Rattle.weights.specs.Wheel.{wheel_kind, beam_wheel_kind};
 ghost use Rattle.minimize.specs.Memories.{memories};
 ghost use Rattle.listings.specs.Answer.{Answers, Lists};
 ghost use Rattle.listings.specs.File.{FileText, HyperText, KindText, refused_text};
@@ -14,7 +14,7 @@ use crate::write::write_listing;
 use drafts::{FileKind, read_draft};
 use minimize::{StateMemory, TableMemory, WorkMemory, compile};
 use tables::{Book, Source};
-use weights::{Check, Coded, Plain, Refusal, Wheel};
+use weights::{BeamWheel, Check, Coded, Plain, Refusal, Wheel};
 
 // How many bytes a listing may take, and how many a file may have.
 const TEXT_SIZE: usize = 32_768;
@@ -186,6 +186,14 @@ fn list_wheel(bytes: &[u8], out: &mut [u8]) -> usize
     list_in_arrays!(Wheel(0), bytes, out)
 }
 
+// Lists a file of beam wheel places.
+fn list_beam_wheel(bytes: &[u8], out: &mut [u8]) -> usize
+    requires { 32768 ≤ length out.old }
+    ensures { Lists (KindText beam_wheel_kind beam_wheel_codes bytes.now) out.old out.new result }
+{
+    list_in_arrays!(BeamWheel(0), bytes, out)
+}
+
 // Lists a file, of the kind that its byte at offset 3 tells.
 fn list_file(bytes: &[u8], out: &mut [u8]) -> usize
     requires { 32768 ≤ length out.old }
@@ -198,6 +206,7 @@ fn list_file(bytes: &[u8], out: &mut [u8]) -> usize
         FileKind::Plain => list_plain(bytes, out),
         FileKind::Check => list_check(bytes, out),
         FileKind::Wheel => list_wheel(bytes, out),
+        FileKind::BeamWheel => list_beam_wheel(bytes, out),
     }
 }
 

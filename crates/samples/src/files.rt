@@ -1,7 +1,7 @@
-use drafts::{Fault, Layer, read_draft};
+use drafts::{Fault, FileKind, Layer, read_draft};
 use std::test::Fail;
 use tables::{Book, Source, weigh};
-use weights::{Check, Coded, Refusal};
+use weights::{BeamWheel, Check, Coded, Refusal, Wheel};
 
 // What reading a check draft answers, over a book of two letters and two states.
 fn answer(bytes: &[u8]) -> Result<(), Fault> {
@@ -58,6 +58,33 @@ fn bad_fields_are_refused_with_7(rt: HostRuntime) {
         "state byte above 1"
     );
     assert_eq!(rt; Refusal::BadField.number(), 7);
+}
+
+// Plain stands where the byte is missing, and where no kind has its number.
+#[test]
+fn the_byte_at_offset_3_tells_the_kind(rt: HostRuntime) {
+    assert_eq!(rt; FileKind::of(&[1, 0, 2]), FileKind::Plain);
+    assert_eq!(rt; FileKind::of(&[1, 0, 2, 0, 1]), FileKind::Plain);
+    assert_eq!(rt; FileKind::of(&[1, 0, 2, 1, 1]), FileKind::Check);
+    assert_eq!(rt; FileKind::of(&[1, 0, 2, 2, 1]), FileKind::Wheel);
+    assert_eq!(rt; FileKind::of(&[1, 0, 2, 3, 1]), FileKind::BeamWheel);
+    assert_eq!(rt; FileKind::of(&[1, 0, 2, 4, 1]), FileKind::Plain);
+}
+
+#[test]
+fn a_book_of_one_wheel_refuses_files_of_the_other(rt: HostRuntime) {
+    let wheel_file = [1, 0, 2, 2, 1];
+    let beam_wheel_file = [1, 0, 2, 3, 1];
+    let mut targets = [0u16; 2];
+    let mut marks = [0u8; 1];
+    let mut weights = [Wheel(0); 2];
+    let mut book = Book::open(&mut targets, &mut weights, &mut marks);
+    assert_eq!(rt; read_draft(&beam_wheel_file, &mut book), bad_field(0));
+    assert_eq!(rt; read_draft(&wheel_file, &mut book), Ok(()));
+    let mut weights = [BeamWheel(0); 2];
+    let mut book = Book::open(&mut targets, &mut weights, &mut marks);
+    assert_eq!(rt; read_draft(&wheel_file, &mut book), bad_field(0));
+    assert_eq!(rt; read_draft(&beam_wheel_file, &mut book), Ok(()));
 }
 
 // A code comes before the book, and the book's refusal comes last.

@@ -95,12 +95,107 @@ arc 0 0 0 5
     Ok(())
 }
 
+// One final state, with codes that only the beam wheel has.
+#[test]
+fn a_beam_wheel_file_is_listed(rt: HostRuntime) -> Result<(), Fail> {
+    let listing = b"least 1
+hyper 1
+kernel 1
+agree 0
+start 0 1439
+state 0 final
+arc 0 0 0 720
+";
+    let text = listed(
+        rt.alloc(),
+        &[
+            1, 0, 2, 3, 1, 2, 0, 1, 1, 3, 0, 7, 0, 0, 0, 0, 0, 2, 208, 4, 0, 4, 0, 0, 5, 159,
+        ],
+    )?;
+    assert_eq!(rt; &text[..], &listing[..]);
+    // the start has code 1,440
+    let refused = listed(
+        rt.alloc(),
+        &[1, 0, 2, 3, 1, 2, 0, 1, 1, 4, 0, 4, 0, 0, 5, 160],
+    )?;
+    assert_eq!(rt; &refused[..], &b"refused 4 9\n"[..]);
+    Ok(())
+}
+
+// Four states over two letters, with codes that both wheels have. State 2 weighs each word 360 places on from where state 1 does, if 360
+// and 360 places come round to place 0.
+const WHEEL_FILE: [u8; 108] = [
+    // the head
+    1, 0, 2, 2, 2,
+    // the states
+    2, 0, 1, 1, 2, 0, 1, 0, 2, 0, 1, 0, 2, 0, 1, 1,
+    // the arcs of state 0
+    3, 0, 7, 0, 0, 0, 0, 1, 0, 0, 3, 0, 7, 0, 0, 1, 0, 2, 0, 0,
+    // the arcs of state 1
+    3, 0, 7, 0, 1, 0, 0, 3, 0, 0, 3, 0, 7, 0, 1, 1, 0, 3, 1, 104,
+    // the arcs of state 2
+    3, 0, 7, 0, 2, 0, 0, 3, 1, 104, 3, 0, 7, 0, 2, 1, 0, 3, 0, 0,
+    // the arcs of state 3
+    3, 0, 7, 0, 3, 0, 0, 3, 0, 0, 3, 0, 7, 0, 3, 1, 0, 3, 0, 1,
+    // the start
+    4, 0, 4, 0, 0, 0, 0,
+];
+
+#[test]
+fn a_draft_has_three_states_on_the_wheel(rt: HostRuntime) -> Result<(), Fail> {
+    let listing = b"least 3
+hyper 3
+kernel 1
+agree 4
+start 0 0
+state 0 final
+state 1 no
+state 2 final
+arc 0 0 1 0
+arc 0 1 1 360
+arc 1 0 2 0
+arc 1 1 2 360
+arc 2 0 2 0
+arc 2 1 2 1
+";
+    let text = listed(rt.alloc(), &WHEEL_FILE)?;
+    assert_eq!(rt; &text[..], &listing[..]);
+    Ok(())
+}
+
+#[test]
+fn the_same_draft_has_four_on_the_beam_wheel(rt: HostRuntime) -> Result<(), Fail> {
+    let listing = b"least 4
+hyper 4
+kernel 1
+agree 6
+start 0 0
+state 0 final
+state 1 no
+state 2 no
+state 3 final
+arc 0 0 1 0
+arc 0 1 2 360
+arc 1 0 3 0
+arc 1 1 3 360
+arc 2 0 3 0
+arc 2 1 3 1080
+arc 3 0 3 0
+arc 3 1 3 1
+";
+    let mut file = WHEEL_FILE;
+    file[3] = 3;
+    let text = listed(rt.alloc(), &file)?;
+    assert_eq!(rt; &text[..], &listing[..]);
+    Ok(())
+}
+
 #[test]
 fn a_file_at_fault_is_refused(rt: HostRuntime) -> Result<(), Fail> {
     assert_eq!(rt; &listed(rt.alloc(), b"")?[..], &b"refused 7 0\n"[..]);
-    // no kind has the number 3
+    // no kind has the number 4, so plain is read
     assert_eq!(rt;
-        &listed(rt.alloc(), &[1, 0, 2, 3, 1])?[..],
+        &listed(rt.alloc(), &[1, 0, 2, 4, 1])?[..],
         &b"refused 7 0\n"[..]
     );
     // the start lacks a byte

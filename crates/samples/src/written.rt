@@ -3,7 +3,7 @@ use drafts::{read_draft, write_draft};
 use sources::{Both, Fold, Ring};
 use std::test::Fail;
 use tables::{Book, Source, weigh};
-use weights::{Check, Coded, Refusal, Wheel};
+use weights::{BeamWheel, Check, Coded, Refusal, Wheel};
 
 // States come before the memory, and a refusal writes nothing.
 #[test]
@@ -31,6 +31,21 @@ fn a_ring_of_2_has_40_bytes(rt: HostRuntime) -> Result<(), Fail> {
 \x03\0\x07\0\0\0\0\x01\x01\0\
 \x03\0\x07\0\x01\0\0\0\x01\0\
 \x04\0\x04\0\0\0\x01\
+\x09";
+    assert_eq!(rt; out, *bytes);
+    Ok(())
+}
+
+// The head has kind 3, and the arc the code 1,439.
+#[test]
+fn a_beam_wheel_ring_has_kind_3(rt: HostRuntime) -> Result<(), Fail> {
+    let mut out = [9u8; 27];
+    let ring = Ring::new(1, 1, BeamWheel(1439))?;
+    assert_eq!(rt; write_draft(&ring, &mut out), Ok(26));
+    let bytes = b"\x01\0\x02\x03\x01\
+\x02\0\x01\x01\
+\x03\0\x07\0\0\0\0\0\x05\x9f\
+\x04\0\x04\0\0\0\0\
 \x09";
     assert_eq!(rt; out, *bytes);
     Ok(())

@@ -7,7 +7,7 @@ use drafts::{FileKind, read_draft};
 use std::env;
 use std::io::Read;
 use tables::{Book, Sheet, Source, weigh};
-use weights::{Check, Coded, Plain, Weight, Wheel};
+use weights::{BeamWheel, Check, Coded, Plain, Weight, Wheel};
 use words::letters_of;
 
 // The memories of the book.
@@ -64,6 +64,7 @@ fn run(rt: &HostRuntime) -> anyhow::Result<()> {
         FileKind::Plain => build::<Plain>(rt, kind, &bytes),
         FileKind::Check => build::<Check>(rt, kind, &bytes),
         FileKind::Wheel => build::<Wheel>(rt, kind, &bytes),
+        FileKind::BeamWheel => build::<BeamWheel>(rt, kind, &bytes),
     }
 }
 
