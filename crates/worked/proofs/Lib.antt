@@ -1,3 +1,4 @@
+mod Quotient
 mod Part
 mod Sink
 mod Own
@@ -7,4 +8,5 @@ mod Dying
 mod Small
 mod Forks
 mod Spin
+mod Round
 mod Listed

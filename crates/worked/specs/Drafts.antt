@@ -4,9 +4,10 @@ use Rattle.std.specs.List.{flat_map, range_with_len}
 use Rattle.weights.specs.Check.{Residue, residue_of, units_257, check_kind}
 use Rattle.weights.specs.Codes.{check_codes}
 use Rattle.weights.specs.Group.{Kind}
-use Rattle.weights.specs.Wheel.{wheel_kind}
+use Rattle.weights.specs.Wheel.{wheel_kind, wheel_place, beam_wheel_kind, beam_wheel_place}
 use Rattle.weights.specs.declared.check.Check.{Check}
 use Rattle.weights.specs.declared.wheel.Wheel.{Wheel}
+use Rattle.weights.specs.declared.beam_wheel.BeamWheel.{BeamWheel}
 use Rattle.tables.specs.Sketch.{Lengths, blank, sketch_of, sketch_table, answers_of}
 use Rattle.tables.specs.Table.{Table, weight_of}
 use Rattle.tables.specs.declared.call.Call.{Call}
@@ -174,6 +175,52 @@ spinning_draft = record {
   factor = spin_factor;
 }
 
+-- the beam wheel number of a place
+abbrev pub beam_wheel : ℕ → BeamWheel
+beam_wheel n = record { 0 = n }
+
+-- Calls with codes below 720, which the wheel and the beam wheel both have. State 2 weighs each word 360 on from where state 1 does,
+-- if 360 and 360 come round to place 0. No arc leads to the off state.
+abbrev pub round_calls : {W : Type 0} → (ℕ → W) → List (Call W)
+round_calls w =
+    Rule 2 ∷ State true ∷ State false ∷ State false ∷ State true ∷
+    Arc 0 0 1 (w 0) ∷ Arc 0 1 2 (w 0) ∷
+    Arc 1 0 3 (w 0) ∷ Arc 1 1 3 (w 360) ∷
+    Arc 2 0 3 (w 360) ∷ Arc 2 1 3 (w 0) ∷
+    Arc 3 0 3 (w 0) ∷ Arc 3 1 3 (w 1) ∷
+    Start 0 (w 0) ∷ []
+
+-- The draft of these calls, of which one state of the least table is kernel, and no two are almost-equivalent: it is its own hyper table.
+abbrev pub round_draft : {W : Type 0} (K : Kind W) → (ℕ → W) → Table K.group.Mean → ℕ → Draft K
+round_draft K w least sink = record {
+  room = room_for 4 2;
+  calls = round_calls w;
+  least = least;
+  kernel = λ q. q == sink;
+  co_kernel = λ q. true;
+  hyper = least;
+  representative = λ q. q;
+  factor = λ q. K.group.one;
+}
+
+-- On the wheel 360 and 360 are place 0: states 1 and 2 become one state of the least table.
+abbrev pub wheel_draft : Draft wheel_kind
+wheel_draft =
+    round_draft wheel_kind wheel
+    (written wheel_place 2 0 (true ∷ false ∷ true ∷ [])
+    ((1 ∷ 1 ∷ []) ∷ (2 ∷ 2 ∷ []) ∷ (2 ∷ 2 ∷ []) ∷ [])
+    ((0 ∷ 360 ∷ []) ∷ (0 ∷ 360 ∷ []) ∷ (0 ∷ 1 ∷ []) ∷ []))
+    2
+
+-- On the beam wheel 360 and 360 are place 720: no two states become one. The push of state 2 is 360.
+abbrev pub beam_wheel_draft : Draft beam_wheel_kind
+beam_wheel_draft =
+    round_draft beam_wheel_kind beam_wheel
+    (written beam_wheel_place 2 0 (true ∷ false ∷ false ∷ true ∷ [])
+    ((1 ∷ 2 ∷ []) ∷ (3 ∷ 3 ∷ []) ∷ (3 ∷ 3 ∷ []) ∷ (3 ∷ 3 ∷ []) ∷ [])
+    ((0 ∷ 360 ∷ []) ∷ (0 ∷ 360 ∷ []) ∷ (0 ∷ 1080 ∷ []) ∷ (0 ∷ 1 ∷ []) ∷ []))
+    3
+
 -- the draft file of the merging draft
 abbrev pub file : List ℕ
 file = flat_map (field_of check_codes.number) (fork_calls (λ c. c) 10)
@@ -206,6 +253,12 @@ pub record WorkedDrafts : Type 0 where
   -- its states 2 and 3 are almost-equivalent to state 1, and are kept
   pub spinning_two_one : AlmostEquivalent wheel_kind.group spinning_draft.least 2 1
   pub spinning_three_one : AlmostEquivalent wheel_kind.group spinning_draft.least 3 1
+  pub wheel : Correct wheel_draft
+  pub wheel_counts : counts wheel_draft ≡ record { closed = 5; least = 3; hyper = 3; kernel = 1; agreement = 4 }
+  pub wheel_marks : marks wheel_draft ≡ 5 ∷ 4 ∷ 7 ∷ []
+  pub beam_wheel : Correct beam_wheel_draft
+  pub beam_wheel_counts : counts beam_wheel_draft ≡ record { closed = 5; least = 4; hyper = 4; kernel = 1; agreement = 6 }
+  pub beam_wheel_marks : marks beam_wheel_draft ≡ 5 ∷ 4 ∷ 4 ∷ 7 ∷ []
   -- the file of the merging draft has 108 bytes and no fault, lists its calls, and is listed as the text
   pub file_size : length file ≡ 108
   pub file_whole : (listing check_codes file).fault ≡ None

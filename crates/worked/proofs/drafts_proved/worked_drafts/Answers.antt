@@ -4,6 +4,7 @@ use Rattle.weights.specs.Numbers.{chosen_path}
 use Rattle.theory.proofs.WorkedTables.{spin_keeps}
 use Rattle.worked.proofs.Forks.{merging_correct, keeping_correct}
 use Rattle.worked.proofs.Listed.{merging_listed}
+use Rattle.worked.proofs.Round.{wheel_correct, beam_wheel_correct}
 use Rattle.worked.proofs.Small.{new_book_correct, one_state_correct}
 use Rattle.worked.proofs.Spin.{spinning_correct}
 use Rattle.worked.proofs.drafts_proved.worked_drafts.Goals as goal
@@ -32,6 +33,12 @@ returns c =
       spinning_marks = refl;
       spinning_two_one = spin_keeps.two_one;
       spinning_three_one = spin_keeps.three_one;
+      wheel = wheel_correct;
+      wheel_counts = refl;
+      wheel_marks = refl;
+      beam_wheel = beam_wheel_correct;
+      beam_wheel_counts = refl;
+      beam_wheel_marks = refl;
       file_size = refl;
       file_whole = refl;
       file_calls = refl;
