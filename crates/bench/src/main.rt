@@ -17,7 +17,7 @@ use sources::Ring;
 use std::env;
 use std::time::Duration;
 use tables::Source;
-use weights::{Check, Coded, Wheel};
+use weights::{BeamWheel, Check, Coded, Wheel};
 
 // How many states and letters, in a short run and in a full one.
 const SHORT: [(u16, u8); 2] = [(64, 2), (256, 4)];
@@ -50,16 +50,17 @@ impl Length {
 
 // The name of a kind that is tried, by its number in files.
 fn kind_name<W: Coded>() -> &'static str {
-    if W::kind_number() == 1 {
-        "check"
-    } else {
-        "wheel"
+    match W::kind_number() {
+        1 => "check",
+        2 => "wheel",
+        3 => "beam wheel",
+        _ => "other",
     }
 }
 
 fn print_head(rt: &HostRuntime, length: Length) -> anyhow::Result<()> {
     print!(rt;
-        "{:<6}{:<7}{:>6}{:>8}{:>6}{:>6}{:>7}{:>10}",
+        "{:<11}{:<7}{:>6}{:>8}{:>6}{:>6}{:>7}{:>10}",
         "kind", "sort", "states", "letters", "least", "hyper", "kernel", "agreement"
     )?;
     match length {
@@ -96,7 +97,7 @@ fn try_source<W: Coded, S: Source<W>>(
     let measured = measure(source, rt, length.runs(), rt.alloc())?;
     let report = measured.report;
     print!(rt;
-        "{:<6}{sort:<7}{:>6}{:>8}{:>6}{:>6}{:>7}{:>10}",
+        "{:<11}{sort:<7}{:>6}{:>8}{:>6}{:>6}{:>7}{:>10}",
         kind_name::<W>(),
         measured.states,
         measured.letters,
@@ -146,6 +147,7 @@ fn run(rt: &HostRuntime) -> anyhow::Result<()> {
     print_head(rt, length)?;
     try_kind::<Check>(rt, length)?;
     try_kind::<Wheel>(rt, length)?;
+    try_kind::<BeamWheel>(rt, length)?;
     Ok(())
 }
 

@@ -18,10 +18,11 @@ pub(crate) struct Plan {
 
 impl Plan {
     pub(crate) fn drawn(random: &mut Random, number: u32) -> Plan {
-        let kind = match number % 3 {
+        let kind = match number % 4 {
             0 => Kind::Plain,
             1 => Kind::Check,
-            _ => Kind::Wheel,
+            2 => Kind::Wheel,
+            _ => Kind::BeamWheel,
         };
         let few = random.letter(4).saturating_add(1);
         let small = random.between(0, 11);
@@ -68,6 +69,12 @@ impl Plan {
                 0 => 1,
                 1 => 360,
                 2 => 719,
+                _ => 0,
+            },
+            Kind::BeamWheel => match choice {
+                0 => 1,
+                1 => 720,
+                2 => 1439,
                 _ => 0,
             },
         }

@@ -162,15 +162,16 @@ fn near_byte(random: &mut Random, bound: u16) -> u8 {
 // The field with one of its numbers changed.
 fn with_change(random: &mut Random, plan: Plan, field: Field) -> Field {
     let choice = random.between(0, 4);
-    let bound = match random.between(0, 3) {
+    let bound = match random.between(0, 4) {
         0 => 0,
         1 => 257,
-        _ => 720,
+        2 => 720,
+        _ => 1440,
     };
     match field {
         Field::Head { kind, letters } => match choice {
             0 | 1 => Field::Head {
-                kind: near_byte(random, 2),
+                kind: near_byte(random, 3),
                 letters,
             },
             2 => Field::Head {

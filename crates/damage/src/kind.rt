@@ -4,6 +4,7 @@ pub(crate) enum Kind {
     Plain,
     Check,
     Wheel,
+    BeamWheel,
 }
 
 impl Kind {
@@ -12,6 +13,7 @@ impl Kind {
             0 => Some(Kind::Plain),
             1 => Some(Kind::Check),
             2 => Some(Kind::Wheel),
+            3 => Some(Kind::BeamWheel),
             _ => None,
         }
     }
@@ -21,6 +23,7 @@ impl Kind {
             Kind::Plain => 0,
             Kind::Check => 1,
             Kind::Wheel => 2,
+            Kind::BeamWheel => 3,
         }
     }
 
@@ -29,6 +32,7 @@ impl Kind {
             Kind::Plain => code == 0,
             Kind::Check => (1..=256).contains(&code),
             Kind::Wheel => code < 720,
+            Kind::BeamWheel => code < 1440,
         }
     }
 
@@ -36,7 +40,7 @@ impl Kind {
     pub(crate) fn one(self) -> u16 {
         match self {
             Kind::Check => 1,
-            Kind::Plain | Kind::Wheel => 0,
+            Kind::Plain | Kind::Wheel | Kind::BeamWheel => 0,
         }
     }
 
@@ -48,6 +52,7 @@ impl Kind {
             Kind::Plain => 0,
             Kind::Check => left.wrapping_mul(right) % 257,
             Kind::Wheel => left.wrapping_add(right) % 720,
+            Kind::BeamWheel => left.wrapping_add(right) % 1440,
         };
         u16::try_from(product).unwrap_or(0)
     }

@@ -4,7 +4,7 @@ use reference::{Compiled, compile_by_definition};
 use std::alloc::{AllocError, Global};
 use std::fmt::Write;
 use tables::Sheet;
-use weights::{Check, Coded, Plain, Wheel};
+use weights::{BeamWheel, Check, Coded, Plain, Wheel};
 
 // The text that belongs to a file, and the number by which it is refused, or 0.
 #[derive(Drop)]
@@ -23,6 +23,7 @@ impl Wanted {
                 Kind::Plain => listing::<Plain>(&drawing, alloc),
                 Kind::Check => listing::<Check>(&drawing, alloc),
                 Kind::Wheel => listing::<Wheel>(&drawing, alloc),
+                Kind::BeamWheel => listing::<BeamWheel>(&drawing, alloc),
             },
         }
     }

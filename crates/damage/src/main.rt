@@ -42,6 +42,7 @@ fn print_counts(rt: &HostRuntime, tally: &Tally) -> anyhow::Result<()> {
     print_row(rt, "plain", tally.of_kind(Kind::Plain))?;
     print_row(rt, "check", tally.of_kind(Kind::Check))?;
     print_row(rt, "wheel", tally.of_kind(Kind::Wheel))?;
+    print_row(rt, "beam wheel", tally.of_kind(Kind::BeamWheel))?;
     print_row(rt, "undamaged", tally.undamaged)?;
     for (damage, name) in DAMAGES {
         print_row(rt, name, tally.of_damage(damage))?;

@@ -38,7 +38,7 @@ impl Row {
 pub(crate) struct Tally {
     pub(crate) all: Row,
     pub(crate) undamaged: Row,
-    kinds: [Row; 3],
+    kinds: [Row; 4],
     damages: [Row; 13],
     // listings of a hyper table with fewer states than the least one
     pub(crate) smaller: u64,
@@ -51,7 +51,7 @@ impl Tally {
         Tally {
             all: Row::new(),
             undamaged: Row::new(),
-            kinds: [Row::new(); 3],
+            kinds: [Row::new(); 4],
             damages: [Row::new(); 13],
             smaller: 0,
             short: 0,

@@ -1,5 +1,5 @@
 use random::Random;
-use weights::{Check, Coded, Commuting, Pair, Plain, Weight, Wheel};
+use weights::{BeamWheel, Check, Coded, Commuting, Pair, Plain, Weight, Wheel};
 
 // A kind of weights to be tried. Its elements are drawn from a small set, so that different words often weigh the same.
 pub(crate) trait Element: Commuting {
@@ -44,6 +44,23 @@ impl Element for Wheel {
             // place 0 once more
             3 => Wheel(720),
             _ => Wheel(0),
+        }
+    }
+
+    fn shown(self) -> usize {
+        usize::from(self.code())
+    }
+}
+
+impl Element for BeamWheel {
+    fn drawn(random: &mut Random) -> BeamWheel {
+        match random.between(0, 8) {
+            0 => BeamWheel(1),
+            1 => BeamWheel(720),
+            2 => BeamWheel(1439),
+            // place 0 once more
+            3 => BeamWheel(1440),
+            _ => BeamWheel(0),
         }
     }
 

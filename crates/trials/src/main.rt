@@ -17,7 +17,7 @@ use random::Random;
 use std::env;
 use tally::{COUNTS, Tally};
 use trial::trial;
-use weights::{Check, Pair, Plain, Wheel};
+use weights::{BeamWheel, Check, Pair, Plain, Wheel};
 
 // What was counted, for each kind.
 #[derive(Clone, Copy)]
@@ -25,6 +25,7 @@ struct Tallies {
     plain: Tally,
     check: Tally,
     wheel: Tally,
+    beam_wheel: Tally,
     pair: Tally,
 }
 
@@ -37,10 +38,11 @@ fn try_table(
     let mut random = Random::new(u64::from(number));
     // a full book is slow to try
     let is_crowded = number % 401 == 400;
-    match number % 4 {
+    match number % 5 {
         0 => trial::<Plain>(&mut random, is_crowded, &mut tallies.plain, rt.alloc()),
         1 => trial::<Check>(&mut random, is_crowded, &mut tallies.check, rt.alloc()),
         2 => trial::<Wheel>(&mut random, is_crowded, &mut tallies.wheel, rt.alloc()),
+        3 => trial::<BeamWheel>(&mut random, is_crowded, &mut tallies.beam_wheel, rt.alloc()),
         _ => trial::<Pair<Check, Wheel>>(&mut random, is_crowded, &mut tallies.pair, rt.alloc()),
     }
 }
@@ -48,15 +50,16 @@ fn try_table(
 // Prints the counts, for the kinds in a row.
 fn print_counts(rt: &HostRuntime, tallies: &Tallies) -> anyhow::Result<()> {
     println!(rt;
-        "{:<44}{:>8}{:>8}{:>8}{:>8}",
-        "", "plain", "check", "wheel", "pair"
+        "{:<44}{:>8}{:>8}{:>8}{:>12}{:>8}",
+        "", "plain", "check", "wheel", "beam wheel", "pair"
     )?;
     for (count, name) in COUNTS {
         let plain = tallies.plain.get(count);
         let check = tallies.check.get(count);
         let wheel = tallies.wheel.get(count);
+        let beam_wheel = tallies.beam_wheel.get(count);
         let pair = tallies.pair.get(count);
-        println!(rt; "{name:<44}{plain:>8}{check:>8}{wheel:>8}{pair:>8}")?;
+        println!(rt; "{name:<44}{plain:>8}{check:>8}{wheel:>8}{beam_wheel:>12}{pair:>8}")?;
     }
     Ok(())
 }
@@ -77,6 +80,7 @@ fn run(rt: &HostRuntime) -> anyhow::Result<()> {
         plain: Tally::new(),
         check: Tally::new(),
         wheel: Tally::new(),
+        beam_wheel: Tally::new(),
         pair: Tally::new(),
     };
     for number in first..first.saturating_add(count) {
