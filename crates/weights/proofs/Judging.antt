@@ -1,7 +1,6 @@
 -- What is known of a call that answers by its verdict. Assumes nothing.
-use Rattle.std.proofs.Common.{◌≡◌, ℕ, Bool, true, false, IfOk, Some, None, Ok, Err, Option, Result, refl, subst, arith}
-use Rattle.weights.specs.Refusal.{Told, outcome, unless, judged}
-use Rattle.weights.specs.declared.refusal.Refusal.{Refusal}
+use Rattle.std.proofs.Common.{◌≡◌, ℕ, Bool, true, false, Some, None, Ok, Err, Option, refl, arith}
+use Rattle.weights.specs.Refusal.{Told, unless, judged}
 
 -- what an answer tells of the verdict
 pub taken_none : {X : Type 0} (v : Option Told) (x y : X) → judged v x ≡ Ok y → (v ≡ None) × (y ≡ x)

@@ -156,3 +156,7 @@ units_commute x y = chosen_path _ _ (product_comm x.at y.at)
 
 abbrev pub check_kind : Kind Check
 check_kind = record { group = units_257; mean = λ c. residue_of c.0 }
+
+-- the one element that means a residue
+abbrev pub check_of : Residue → Check
+check_of x = record { 0 = x.at % 256 }

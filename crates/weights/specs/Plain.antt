@@ -17,3 +17,7 @@ plain_group = record {
 
 abbrev pub plain_kind : Kind Plain
 plain_kind = record { group = plain_group; mean = λ _. tt }
+
+-- the one element
+abbrev pub plain : Plain
+plain = record {}

@@ -1,11 +1,12 @@
 ghost use Rattle.std.specs.Prelude.{◌≡◌, ℕ, ◌%◌, Decides, refl};
 ghost use Rattle.std.proofs.Common.{ap, rules};
-ghost use Rattle.weights.specs.Check.{product, square_times, power_255, number_of, residue_of, times, inverse, check_kind, is_unit, number_unit};
+ghost use Rattle.weights.specs.Check.{product, square_times, power_255, number_of, residue_of, unit, times, inverse, check_kind, check_of, is_unit, number_unit};
 ghost use Rattle.weights.specs.Codes.{check_codes};
 ghost use Rattle.std.proofs.lemmas.Bool.{cond-true};
 ghost use Rattle.weights.specs.Numbers.{chosen_path};
 ghost use Rattle.weights.specs.Residues.{number_stored};
 
+use crate::canonical::Canonical;
 use crate::coded::Coded;
 use crate::commuting::Commuting;
 use crate::refusal::Refusal;
@@ -60,14 +61,16 @@ fn power_255_mod(x: u16) -> u16
 
 // The product of the numbers that two bytes stand for, as a byte.
 fn product_byte(a: Check, b: Check) -> Check
-    ensures { residue_of result.0 ≡ times (residue_of a.0) (residue_of b.0) }
+    ensures meaning { residue_of result.0 ≡ times (residue_of a.0) (residue_of b.0) }
+    ensures element { result ≡ check_of (times (residue_of a.0) (residue_of b.0)) }
 {
     stored(product_mod(a.number(), b.number()))
 }
 
 // The inverse of the number that a byte stands for, as a byte.
 fn inverse_byte(a: Check) -> Check
-    ensures { residue_of result.0 ≡ inverse (residue_of a.0) }
+    ensures meaning { residue_of result.0 ≡ inverse (residue_of a.0) }
+    ensures element { result ≡ check_of (inverse (residue_of a.0)) }
 {
     stored(power_255_mod(a.number()))
 }
@@ -82,21 +85,34 @@ fn same_byte(a: u8, b: u8) -> bool
 impl Weight for Check {
     ghost kind = { check_kind };
 
-    fn one() -> Check {
+    fn one() -> Check
+        ensures meaning { residue_of result.0 ≡ unit }
+        ensures element { result ≡ check_of unit }
+    {
         Check(1)
     }
 
-    fn times(self, right: Check) -> Check {
+    fn times(self, right: Check) -> Check
+        ensures meaning { residue_of result.0 ≡ times (residue_of self.0) (residue_of right.0) }
+        ensures element { result ≡ check_of (times (residue_of self.0) (residue_of right.0)) }
+    {
         product_byte(self, right)
     }
 
-    fn inverse(self) -> Check {
+    fn inverse(self) -> Check
+        ensures meaning { residue_of result.0 ≡ inverse (residue_of self.0) }
+        ensures element { result ≡ check_of (inverse (residue_of self.0)) }
+    {
         inverse_byte(self)
     }
 
     fn same(self, other: Check) -> bool {
         same_byte(self.0, other.0)
     }
+}
+
+impl Canonical for Check {
+    fn canonical(self, _other: Check) {}
 }
 
 impl Commuting for Check {

@@ -1,6 +1,7 @@
 #![tactic(auto)]
 
 mod beam_wheel;
+mod canonical;
 mod check;
 mod coded;
 mod commuting;
@@ -14,6 +15,7 @@ mod weight;
 mod wheel;
 
 pub use beam_wheel::BeamWheel;
+pub use canonical::Canonical;
 pub use check::Check;
 pub use coded::Coded;
 pub use commuting::Commuting;

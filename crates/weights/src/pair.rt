@@ -1,5 +1,6 @@
 ghost use Rattle.weights.specs.Pair.{pair_kind};
 
+use crate::canonical::Canonical;
 use crate::commuting::Commuting;
 use crate::weight::Weight;
 
@@ -36,6 +37,13 @@ impl<L: Weight, R: Weight> Weight for Pair<L, R> {
 
     fn same(self, other: Pair<L, R>) -> bool {
         self.left.same(other.left) && self.right.same(other.right)
+    }
+}
+
+impl<L: Canonical, R: Canonical> Canonical for Pair<L, R> {
+    fn canonical(self, other: Pair<L, R>) {
+        self.left.canonical(other.left);
+        self.right.canonical(other.right);
     }
 }
 

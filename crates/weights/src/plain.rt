@@ -1,7 +1,9 @@
 ghost use Rattle.weights.specs.Codes.{plain_codes};
-ghost use Rattle.weights.specs.Plain.{plain_kind};
+ghost use Rattle.std.specs.Prelude.{◌≡◌};
+ghost use Rattle.weights.specs.Plain.{plain, plain_kind};
 ghost use Rattle.std.proofs.Common.{rules};
 
+use crate::canonical::Canonical;
 use crate::coded::Coded;
 use crate::commuting::Commuting;
 use crate::refusal::Refusal;
@@ -14,21 +16,31 @@ pub struct Plain;
 impl Weight for Plain {
     ghost kind = { plain_kind };
 
-    fn one() -> Plain {
+    fn one() -> Plain
+        ensures { result ≡ plain }
+    {
         Plain
     }
 
-    fn times(self, _right: Plain) -> Plain {
+    fn times(self, _right: Plain) -> Plain
+        ensures { result ≡ plain }
+    {
         Plain
     }
 
-    fn inverse(self) -> Plain {
+    fn inverse(self) -> Plain
+        ensures { result ≡ plain }
+    {
         Plain
     }
 
     fn same(self, _other: Plain) -> bool {
         true
     }
+}
+
+impl Canonical for Plain {
+    fn canonical(self, _other: Plain) {}
 }
 
 impl Commuting for Plain {
