@@ -1,6 +1,7 @@
 ghost use Rattle.std.specs.Prelude.{◌≡◌, ◌<◌, IfOk};
 ghost use Rattle.weights.specs.Refusal.{outcome, judged};
-ghost use Rattle.tables.specs.Table.{has_arc};
+ghost use Rattle.weights.specs.Codes.{within};
+ghost use Rattle.tables.specs.Table.{has_arc, meant, weight_at};
 ghost use Rattle.sources.specs.Ring.{ring_verdict, ring_states, next, ring_table, ring_lawful, WeighsAsRing};
 
 use tables::{Source, is_letter_count, letters_read};
@@ -82,7 +83,11 @@ impl<W: Weight> Source<W> for Ring<W> {
         self.has_arc(state, letter).then(|| self.next(state))
     }
 
-    fn weight(&self, state: u16, letter: u8) -> Option<W> {
+    // The element that the ring was made with.
+    fn weight(&self, state: u16, letter: u8) -> Option<W>
+        ensures meaning { meant W.kind result ≡ weight_at (ring_table W.kind self.now) state letter }
+        ensures element { result ≡ within (has_arc (ring_table W.kind self.now) state letter) self.now.weight }
+    {
         self.has_arc(state, letter).then_some(self.weight)
     }
 }

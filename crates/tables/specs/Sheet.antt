@@ -1,5 +1,5 @@
 -- The table that a sheet means: what its three memories hold, and one state more. Assumes nothing.
-use Rattle.std.specs.Prelude.{ℕ, ◌+◌, ◌%◌, ◌<◌, min, Bool, cond, ◌&&◌, List, map, None, Option, Result, ◌==◌, nat_le, nat_lt, slice_index, slice_index_or}
+use Rattle.std.specs.Prelude.{◌≡◌, ℕ, ◌+◌, ◌%◌, ◌<◌, min, Bool, true, cond, ◌&&◌, List, map, Some, None, Option, Result, ◌==◌, nat_le, nat_lt, slice_get, slice_index, slice_index_or}
 use Rattle.std.proofs.Common.{arith}
 use Rattle.std.proofs.lemmas.Bool.{cond_both, ltb-true}
 use Rattle.weights.specs.Group.{Kind}
@@ -46,6 +46,11 @@ led_to c k = cond (leads c k) (entry_at c k) (drawn c)
 
 abbrev pub led_by : {W : Type 0} (K : Kind W) → Contents W → ℕ → K.group.Mean
 led_by K c k = cond (leads c k) (mean_at K c.weights k) K.group.one
+
+-- The element x is the one at a place, which leads to a state that is drawn. A place that leads to the off state, or does not exist,
+-- has no element of its own, and any that means one will do.
+abbrev pub HasElement : {W : Type 0} → Contents W → ℕ → W → Type 0
+HasElement c k x = (leads c k ≡ true) × (slice_get c.weights k ≡ Some x)
 
 -- an arc of the sheet, and not of its off state
 abbrev pub is_drawn : {W : Type 0} → Contents W → ℕ → ℕ → Bool

@@ -1,4 +1,4 @@
-ghost use Rattle.std.specs.Prelude.{◌≡◌, ◌+◌, ◌≤◌, length, slice_index_or, slice_set};
+ghost use Rattle.std.specs.Prelude.{◌≡◌, ◌+◌, ◌≤◌, Some, length, slice_get, slice_index_or, slice_set};
 ghost use Rattle.tables.specs.Book.{cleared, laid, place, size_of};
 ghost use Rattle.tables.specs.Call.{has_places, has_room};
 ghost use Rattle.tables.specs.Sheet.{mean_at};
@@ -33,7 +33,8 @@ pub fn get_or<T: Copy>(memory: &[T], at: usize, default: &T) -> T
 
 // The element at a place, one where the place does not exist.
 pub(crate) fn element_in<W: Weight>(elements: &[W], at: usize) -> W
-    ensures { W.kind.mean result ≡ mean_at W.kind elements.now at }
+    ensures meaning { W.kind.mean result ≡ mean_at W.kind elements.now at }
+    ensures element { (x : W) → slice_get elements.now at ≡ Some x → result ≡ x }
 {
     get_or(elements, at, &W::one())
 }

@@ -1,9 +1,9 @@
-ghost use Rattle.std.specs.Prelude.{◌≡◌, ◌==◌};
+ghost use Rattle.std.specs.Prelude.{◌≡◌, ◌==◌, Some, true};
 ghost use Rattle.weights.specs.Refusal.{outcome_as};
-ghost use Rattle.tables.specs.Book.{laid};
+ghost use Rattle.tables.specs.Book.{laid, place};
 ghost use Rattle.tables.specs.Held.{held};
-ghost use Rattle.tables.specs.Table.{has_arc};
-ghost use Rattle.tables.specs.Sheet.{sheet_of, drawn, led_to, led_by, sheet_table, sheet_lawful};
+ghost use Rattle.tables.specs.Table.{has_arc, meant, weight_at};
+ghost use Rattle.tables.specs.Sheet.{sheet_of, drawn, width, is_drawn, led_to, led_by, HasElement, sheet_table, sheet_lawful};
 
 use crate::memory::{UNSET, arc_place, element_in, get_or, has_places};
 use crate::source::Source;
@@ -80,7 +80,8 @@ impl<'a, W: Weight> Sheet<'a, W> {
 
     // With which weight the place leads.
     fn led_by(&self, at: usize) -> W
-        ensures { W.kind.mean result ≡ led_by W.kind (held self.now) at }
+        ensures meaning { W.kind.mean result ≡ led_by W.kind (held self.now) at }
+        ensures element { (x : W) → HasElement (held self.now) at x → result ≡ x }
     {
         if self.is_off(self.led_to(at)) {
             W::one()
@@ -107,7 +108,11 @@ impl<W: Weight> Source<W> for Sheet<'_, W> {
         self.led_to(0)
     }
 
-    fn start_weight(&self) -> W {
+    // The element at place 0, if that leads to a state that is drawn.
+    fn start_weight(&self) -> W
+        ensures meaning { W.kind.mean result ≡ (sheet_table W.kind (held self.now)).start_weight }
+        ensures element { (x : W) → HasElement (held self.now) 0 x → result ≡ x }
+    {
         self.led_by(0)
     }
 
@@ -129,7 +134,11 @@ impl<W: Weight> Source<W> for Sheet<'_, W> {
         Some(self.led_to(arc_place(self.letters(), state, letter)))
     }
 
-    fn weight(&self, state: u16, letter: u8) -> Option<W> {
+    // The element at the arc's place, if that leads to a state that is drawn.
+    fn weight(&self, state: u16, letter: u8) -> Option<W>
+        ensures meaning { meant W.kind result ≡ weight_at (sheet_table W.kind (held self.now)) state letter }
+        ensures element { (x : W) → is_drawn (held self.now) state letter ≡ true → HasElement (held self.now) (place (width (held self.now)) state letter) x → result ≡ Some x }
+    {
         if !self.has_arc(state, letter) {
             return None;
         }
