@@ -1,8 +1,8 @@
 ghost use Rattle.std.specs.Prelude.{◌≡◌, Some, slice_get};
-ghost use Rattle.drafts.specs.FileKind.{kind_of, kind_name};
+ghost use Rattle.drafts.specs.FileKind.{known, kind_of};
 
 use std::fmt;
-use weights::{BeamWheel, Check, Coded, Wheel};
+use weights::{BeamWheel, Check, Coded, Plain, Wheel};
 
 // The kind of weights that a draft file has.
 #[derive(Clone, Copy, PartialEq, Eq, Debug)]
@@ -25,17 +25,37 @@ impl FileKind {
             _ => FileKind::Plain,
         }
     }
-}
 
-impl fmt::Display for FileKind {
-    ghost output = { λ kind. Some (kind_name kind) };
+    // The number that a file names the kind by; a file with that byte is of the kind.
+    pub fn number(self) -> u8
+        ensures number { result ≡ (known self).number }
+        ensures read { kind_of (Some result) ≡ self }
+    {
+        match self {
+            FileKind::Plain => Plain::kind_number(),
+            FileKind::Check => Check::kind_number(),
+            FileKind::Wheel => Wheel::kind_number(),
+            FileKind::BeamWheel => BeamWheel::kind_number(),
+        }
+    }
 
-    fn fmt<W: fmt::Write>(&self, f: &mut fmt::Formatter<W>) -> fmt::Result {
-        f.write_str(match self {
+    // The word by which the kind is known.
+    pub fn name(self) -> &'static str
+        ensures { result.now ≡ (known self).word }
+    {
+        match self {
             FileKind::Plain => "plain",
             FileKind::Check => "check",
             FileKind::Wheel => "wheel",
             FileKind::BeamWheel => "beam wheel",
-        })
+        }
+    }
+}
+
+impl fmt::Display for FileKind {
+    ghost output = { λ kind. Some (known kind).word };
+
+    fn fmt<W: fmt::Write>(&self, f: &mut fmt::Formatter<W>) -> fmt::Result {
+        f.write_str(self.name())
     }
 }
