@@ -11,7 +11,7 @@ use Rattle.weights.specs.Codes.{Codes, code_for, within}
 use Rattle.weights.specs.Group.{Kind}
 use Rattle.tables.specs.Book.{opened}
 use Rattle.tables.specs.Sheet.{sheet_table}
-use Rattle.tables.specs.Sketch.{Lengths, Link, Sketch, blank, sketch_verdict, drawn_on, sketch_table, link_to, link_by}
+use Rattle.tables.specs.Sketch.{Lengths, Link, Sketch, blank, refusal_on, drawn_on, sketch_table, link_to, link_by}
 use Rattle.tables.specs.Table.{Table, Lawful, Word, WeighAlike, scaled, weight_from}
 use Rattle.tables.specs.declared.call.Call.{Call}
 use Rattle.tables.specs.declared.call.Call.TheVariants.{Rule, State}
@@ -90,13 +90,13 @@ module _ {W : Type 0} (K : Kind W) (k : Codes W) (t : Table K.group.Mean) (lawfu
 
   module _ (n : Lengths) (targets : 1 + arc_count t ≤ n.targets) (weights : 1 + arc_count t ≤ n.weights)
       (marks : t.states ≤ n.marks) (few : t.states < 4096) where
-    states_pass : (i : ℕ) → i < t.states → sketch_verdict n (with_states i) (decoded k d (state_call K k t i)) ≡ None
+    states_pass : (i : ℕ) → i < t.states → refusal_on n (with_states i) (decoded k d (state_call K k t i)) ≡ None
     states_pass i l =
         let rows = mul-le-mul_right t.letters l in
         let count = length-map-range_with_len t.final 0 i in
         rw (states_drawn i) (grind (arith, nat_tests, rows, count))
 
-    arcs_pass : (i : ℕ) → i < arc_count t → sketch_verdict n (with_arcs i) (decoded k d (arc_call K k t i)) ≡ None
+    arcs_pass : (i : ℕ) → i < arc_count t → refusal_on n (with_arcs i) (decoded k d (arc_call K k t i)) ≡ None
     arcs_pass i l =
         let before = arcs_drawn i in
         let inside = arc_inside t lawful t.letters i refl l in

@@ -4,8 +4,8 @@ use Rattle.std.specs.List.{range_with_len}
 use Rattle.std.proofs.lemmas.List.FromFn.{map-range_with_len_more}
 use Rattle.weights.specs.Codes.{Codes}
 use Rattle.weights.specs.Refusal.{Told}
-use Rattle.tables.specs.Book.{Contents, book_verdict, taken}
-use Rattle.tables.specs.Sketch.{Lengths, Sketch, sketch_verdict, drawn_on}
+use Rattle.tables.specs.Book.{Contents, refusal_in, taken}
+use Rattle.tables.specs.Sketch.{Lengths, Sketch, refusal_on, drawn_on}
 use Rattle.tables.specs.declared.call.Call.{Call}
 use Rattle.tables.proofs.InStep.{InStep}
 use Rattle.tables.proofs.Steps.{taken_in_step, same_verdict}
@@ -29,7 +29,7 @@ module _ {W : Type 0} (k : Codes W) (d : W) where
   -- each of them meets no refusal
   abbrev pub Unrefused : Lengths → Sketch W → List (Call ℕ) → Type 0
   Unrefused n s [] = Unit {0}
-  Unrefused n s (c ∷ cs) = (sketch_verdict n s (decoded k d c) ≡ None) × Unrefused n (drawn_on s (decoded k d c)) cs
+  Unrefused n s (c ∷ cs) = (refusal_on n s (decoded k d c) ≡ None) × Unrefused n (drawn_on s (decoded k d c)) cs
 
   pub drawn_append : (s : Sketch W) (xs ys : List (Call ℕ)) → drawn_all s (xs ++ ys) ≡ drawn_all (drawn_all s xs) ys
   drawn_append s [] ys = refl
@@ -49,7 +49,7 @@ module _ {W : Type 0} (k : Codes W) (d : W) where
       let call = decoded k d c in
       let next = o + length (field_of k.number c) in
       let rest = made_on (taken b call) (placed k d next cs) None in
-      let on = carried_on (book_verdict b call) o b rest e in
+      let on = carried_on (refusal_in b call) o b rest e in
       let clear : rest.fault ≡ None = sym (ap (λ r. r.fault) on.1) ∙ e in
       subst (λ r. InStep n (drawn_all (drawn_on s call) cs) r.after) (sym on.1)
       (read_in_step n (drawn_on s call) (taken b call) cs next (taken_in_step n s b call h on.0) clear)
@@ -62,7 +62,7 @@ module _ {W : Type 0} (k : Codes W) (d : W) where
   read_unrefused n s b (c ∷ cs) o h u =
       let call = decoded k d c in
       let next = o + length (field_of k.number c) in
-      let met : book_verdict b call ≡ None = same_verdict n s b call h ∙ u.0 in
+      let met : refusal_in b call ≡ None = same_verdict n s b call h ∙ u.0 in
       ap (λ v. (carried v o b (made_on (taken b call) (placed k d next cs) None)).fault) met
       ∙ read_unrefused n (drawn_on s call) (taken b call) cs next (taken_in_step n s b call h met) u.1
 
@@ -78,7 +78,7 @@ module _ {W : Type 0} (k : Codes W) (d : W) where
 
   pub run_unrefused :
       (n : Lengths) (s : Sketch W) (f : ℕ → Call ℕ) (m : ℕ) →
-      ((i : ℕ) → i < m → sketch_verdict n (run s f i) (decoded k d (f i)) ≡ None) → Unrefused n s (map f (range_with_len 0 m))
+      ((i : ℕ) → i < m → refusal_on n (run s f i) (decoded k d (f i)) ≡ None) → Unrefused n s (map f (range_with_len 0 m))
   run_unrefused n s f zero h = tt
   run_unrefused n s f (suc m) h =
       subst (Unrefused n s) (sym (map-range_with_len_more f 0 m m (zero-add m)) ∙ ap (λ j. map f (range_with_len 0 j)) (add-one m))

@@ -4,7 +4,7 @@ use Rattle.std.proofs.lemmas.List.{take_rest, drop-drop, length-drop}
 use Rattle.std.proofs.lemmas.Bool.{ne_eqb}
 use Rattle.weights.specs.Codes.{Codes}
 use Rattle.weights.specs.Refusal.{Told}
-use Rattle.tables.specs.Book.{Contents, book_verdict, taken}
+use Rattle.tables.specs.Book.{Contents, refusal_in, taken}
 use Rattle.drafts.specs.Advancing.{reading_from}
 use Rattle.drafts.specs.Draft.{one_more, begun, listed, carried, reading}
 use Rattle.drafts.specs.Fault.{faulted, unmade}
@@ -63,7 +63,7 @@ module _ {W : Type 0} (k : Codes W) (bs : List ℕ) (o : ℕ) (h : o < length bs
   module _ (c : Contents W) where
     -- the call is taken
     pub read_on :
-        (f : Field W) → field_at k (eqb o 0) o (drop o bs) ≡ Ok f → book_verdict c f.call ≡ None →
+        (f : Field W) → field_at k (eqb o 0) o (drop o bs) ≡ Ok f → refusal_in c f.call ≡ None →
         (o < o + f.length)
         × (o + f.length ≤ length bs)
         × (reading_from k bs o c ≡ reading_from k bs (o + f.length) (taken c f.call))
@@ -77,7 +77,7 @@ module _ {W : Type 0} (k : Codes W) (bs : List ℕ) (o : ℕ) (h : o < length bs
 
     -- the call is refused
     pub read_refused :
-        (f : Field W) (t : Told) → field_at k (eqb o 0) o (drop o bs) ≡ Ok f → book_verdict c f.call ≡ Some t →
+        (f : Field W) (t : Told) → field_at k (eqb o 0) o (drop o bs) ≡ Ok f → refusal_in c f.call ≡ Some t →
         reading_from k bs o c ≡ record { after = c; fault = Some (unmade o t) }
     read_refused f t e v =
         let rest = listed k (eqb (o + f.length) 0) 0 (o + f.length) (drop (o + f.length) bs) in

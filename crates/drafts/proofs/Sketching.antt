@@ -3,7 +3,7 @@ use Rattle.std.proofs.Common.{◌≡◌, ℕ, List, [], ◌∷◌, length, Some,
 use Rattle.weights.specs.Codes.{Codes}
 use Rattle.weights.specs.Group.{Kind}
 use Rattle.weights.specs.Refusal.{Told}
-use Rattle.tables.specs.Book.{Contents, opened, book_verdict, taken}
+use Rattle.tables.specs.Book.{Contents, opened, refusal_in, taken}
 use Rattle.tables.specs.Sheet.{sheet_table}
 use Rattle.tables.specs.Sketch.{Lengths, Sketch, blank, drawn_on, sketch_table}
 use Rattle.tables.proofs.InStep.{InStep}
@@ -41,9 +41,9 @@ module _ {W : Type 0} (n : Lengths) where
   made_as_drawn s c (p ∷ ps) f h =
       let rest = file_sketch n (drawn_on s p.call) ps f in
       let read = made_on (taken c p.call) ps f in
-      subst (λ v. Draws n (drawn_after v p.offset rest) (carried (book_verdict c p.call) p.offset c read))
+      subst (λ v. Draws n (drawn_after v p.offset rest) (carried (refusal_in c p.call) p.offset c read))
       (same_verdict n s c p.call h)
-      (went_on (book_verdict c p.call) p.offset c rest read
+      (went_on (refusal_in c p.call) p.offset c rest read
       (λ e. made_as_drawn (drawn_on s p.call) (taken c p.call) ps f (taken_in_step n s c p.call h e)))
 
 -- a file is read into a new book over three memories as it is drawn for memories of their lengths

@@ -2,7 +2,7 @@
 use Rattle.std.specs.Prelude.{ℕ, zero, suc, ◌-◌, Bool, true, false, cond, List, [], ◌∷◌, Some, None, Ok, Err, Option, Result}
 use Rattle.weights.specs.Codes.{Codes}
 use Rattle.weights.specs.Refusal.{Told}
-use Rattle.tables.specs.Book.{Contents, book_verdict, taken}
+use Rattle.tables.specs.Book.{Contents, refusal_in, taken}
 use Rattle.tables.specs.declared.call.Call.{Call}
 use Rattle.drafts.specs.Fault.{Blame, malformed, unmade}
 use Rattle.drafts.specs.Field.{field_at}
@@ -50,7 +50,7 @@ carried (Some t) o c rest = record { after = c; fault = Some (unmade o t) }
 -- the calls are made one after another
 abbrev pub made_on : {W : Type 0} → Contents W → List (Placed W) → Option Blame → Reading W
 made_on c [] f = record { after = c; fault = f }
-made_on c (p ∷ ps) f = carried (book_verdict c p.call) p.offset c (made_on (taken c p.call) ps f)
+made_on c (p ∷ ps) f = carried (refusal_in c p.call) p.offset c (made_on (taken c p.call) ps f)
 
 -- the reading of a listing on a book
 abbrev pub reading : {W : Type 0} → Contents W → Listing W → Reading W

@@ -2,7 +2,7 @@
 use Rattle.std.specs.Prelude.{ℕ, List, [], ◌∷◌, Some, None, Ok, Err, Option, Result}
 use Rattle.weights.specs.Codes.{Codes}
 use Rattle.weights.specs.Refusal.{Told}
-use Rattle.tables.specs.Sketch.{Lengths, Sketch, blank, sketch_verdict, drawn_on}
+use Rattle.tables.specs.Sketch.{Lengths, Sketch, blank, refusal_on, drawn_on}
 use Rattle.drafts.specs.Draft.{Placed, listing}
 use Rattle.drafts.specs.Fault.{Blame, unmade}
 
@@ -19,7 +19,7 @@ drawn_after (Some t) o rest = Err (unmade o t)
 -- the calls are made on the sketch one after another, for memories of those lengths; the fault of the file comes after them
 abbrev pub file_sketch : {W : Type 0} → Lengths → Sketch W → List (Placed W) → Option Blame → Result (Sketch W) Blame
 file_sketch n s [] f = drawn_whole f s
-file_sketch n s (p ∷ ps) f = drawn_after (sketch_verdict n s p.call) p.offset (file_sketch n (drawn_on s p.call) ps f)
+file_sketch n s (p ∷ ps) f = drawn_after (refusal_on n s p.call) p.offset (file_sketch n (drawn_on s p.call) ps f)
 
 -- what the bytes of a file draw
 abbrev pub draft_sketch : {W : Type 0} → Lengths → Codes W → List ℕ → Result (Sketch W) Blame

@@ -10,7 +10,7 @@ use Rattle.tables.specs.Book.{Contents, size_of, opened, left_by, left_by_all, a
 use Rattle.tables.specs.Made.{calls_of, HasSize}
 use Rattle.tables.specs.Sizes.{size_over, size_left}
 use Rattle.tables.specs.Sheet.{sheet_table, sheet_of, sheet_verdict}
-use Rattle.tables.specs.Sketch.{Lengths, lengths_of, Sketch, blank, sketch_size, sketch_verdict, drawn_on, sketched, sketch_answer, sketch_of, answers_of, sketch_table}
+use Rattle.tables.specs.Sketch.{Lengths, lengths_of, Sketch, blank, sketch_size, refusal_on, drawn_on, sketched, sketch_answer, sketch_of, answers_of, sketch_table}
 use Rattle.tables.specs.declared.call.Call.{Call}
 use Rattle.tables.specs.declared.call.Call.TheVariants.{Rule, State, Arc, Start}
 use Rattle.tables.specs.declared.made.Made.{Made}
@@ -115,8 +115,8 @@ size_sketched n s (State f) =
     in
     under_check (sketch_size n) room 5 (drawn_on s (State f)) s
     ∙ ap (λ m. cond room (size m) (sketch_size n s)) (length_push s.finals f)
-size_sketched n s (Arc q a r w) = unchanged (sketch_size n) (sketch_verdict n s (Arc q a r w)) (drawn_on s (Arc q a r w)) s refl
-size_sketched n s (Start q w) = unchanged (sketch_size n) (sketch_verdict n s (Start q w)) (drawn_on s (Start q w)) s refl
+size_sketched n s (Arc q a r w) = unchanged (sketch_size n) (refusal_on n s (Arc q a r w)) (drawn_on s (Arc q a r w)) s refl
+size_sketched n s (Start q w) = unchanged (sketch_size n) (refusal_on n s (Start q w)) (drawn_on s (Start q w)) s refl
 
 -- one more call
 sketch_more : {W : Type 0} (n : Lengths) (s : Sketch W) (ms : List (Made W)) (m : Made W) →

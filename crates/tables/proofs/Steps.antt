@@ -7,9 +7,9 @@ use Rattle.weights.specs.Group.{Kind}
 use Rattle.weights.specs.Refusal.{Told, unless}
 use Rattle.weights.proofs.Judging.{unless_none}
 use Rattle.tables.specs.Call.{verdict, if_taken, may_rule, has_room, has_state, has_letter}
-use Rattle.tables.specs.Book.{Contents, size_of, place, unset, cleared, mark, opened, is_free, book_verdict, taken, left_by, left_by_all}
+use Rattle.tables.specs.Book.{Contents, size_of, place, unset, cleared, mark, opened, is_free, refusal_in, taken, left_by, left_by_all}
 use Rattle.tables.specs.Sheet.{drawn, width, entry_at, mean_at, leads, led_to, led_by, is_drawn, sheet_table}
-use Rattle.tables.specs.Sketch.{Lengths, lengths_of, Link, Sketch, blank, sketch_size, is_undrawn, sketch_verdict, drawn_on, sketched, sketch_of, link_to, link_by, sketch_table}
+use Rattle.tables.specs.Sketch.{Lengths, lengths_of, Link, Sketch, blank, sketch_size, is_undrawn, refusal_on, drawn_on, sketched, sketch_of, link_to, link_by, sketch_table}
 use Rattle.tables.specs.declared.call.Call.{Call}
 use Rattle.tables.specs.declared.call.Call.TheVariants.{Rule, State, Arc, Start}
 use Rattle.tables.proofs.InStep.{Holds, InStep}
@@ -256,7 +256,7 @@ start_in_step n s c q w h l =
 
 -- a call that is taken keeps the book in step
 pub taken_in_step : {W : Type 0} (n : Lengths) (s : Sketch W) (c : Contents W) (k : Call W) → InStep n s c
-    → book_verdict c k ≡ None → InStep n (drawn_on s k) (taken c k)
+    → refusal_in c k ≡ None → InStep n (drawn_on s k) (taken c k)
 taken_in_step n s c (Rule m) h e = rule_in_step n s c m h (unless_none (may_rule (size_of c) m) 1 None e).0
 taken_in_step n s c (State f) h e = state_in_step n s c f h (unless_none (has_room (size_of c)) 5 None e).0
 taken_in_step n s c (Arc q a r w) h e =
@@ -289,7 +289,7 @@ unless_same false n x y h = refl
 
 -- a book refuses the same calls if it judges by the sketch which states and letters are free
 free_same : {W : Type 0} (n : Lengths) (s : Sketch W) (c : Contents W) (k : Call W) → InStep n s c
-    → book_verdict c k ≡ verdict (size_of c) (is_undrawn s) k
+    → refusal_in c k ≡ verdict (size_of c) (is_undrawn s) k
 free_same n s c (Rule m) h = refl
 free_same n s c (State f) h = refl
 free_same n s c (Arc q a r w) h =
@@ -307,7 +307,7 @@ free_same n s c (Start q w) h = refl
 
 -- a book and its sketch refuse the same calls
 pub same_verdict : {W : Type 0} (n : Lengths) (s : Sketch W) (c : Contents W) (k : Call W) → InStep n s c
-    → book_verdict c k ≡ sketch_verdict n s k
+    → refusal_in c k ≡ refusal_on n s k
 same_verdict n s c k h =
     free_same n s c k h ∙ ap (λ z. verdict z (is_undrawn s) k) (same_size n s c h)
 
@@ -316,7 +316,7 @@ pub step : {W : Type 0} (n : Lengths) (s : Sketch W) (c : Contents W) (k : Call 
     → InStep n (sketched n s k) (left_by c k)
 step n s c k h =
     subst (λ v. InStep n (if_taken v (drawn_on s k) s) (left_by c k)) (same_verdict n s c k h)
-    (either_in_step n s (drawn_on s k) c (taken c k) (book_verdict c k) h (taken_in_step n s c k h))
+    (either_in_step n s (drawn_on s k) c (taken c k) (refusal_in c k) h (taken_in_step n s c k h))
 
 -- a list of calls keeps the book in step
 pub all_steps : {W : Type 0} (n : Lengths) (s : Sketch W) (c : Contents W) (ks : List (Call W)) → InStep n s c

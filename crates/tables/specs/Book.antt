@@ -55,12 +55,12 @@ abbrev pub is_free : {W : Type 0} → Contents W → ℕ → ℕ → Bool
 is_free c q a = slice_index_or c.targets (place c.letters q a) unset == unset
 
 -- the refusal that a call meets, if any
-abbrev pub book_verdict : {W : Type 0} → Contents W → Call W → Option Told
-book_verdict c k = verdict (size_of c) (is_free c) k
+abbrev pub refusal_in : {W : Type 0} → Contents W → Call W → Option Told
+refusal_in c k = verdict (size_of c) (is_free c) k
 
 -- what a call answers
 abbrev pub answer_to : {W : Type 0} → Contents W → Call W → Result (Unit {0}) Told
-answer_to c k = judged (book_verdict c k) tt
+answer_to c k = judged (refusal_in c k) tt
 
 -- what a call that is taken leaves
 abbrev pub taken : {W : Type 0} → Contents W → Call W → Contents W
@@ -92,7 +92,7 @@ taken c (Start q w) =
 
 -- what a call leaves, taken or refused
 abbrev pub left_by : {W : Type 0} → Contents W → Call W → Contents W
-left_by c k = if_taken (book_verdict c k) (taken c k) c
+left_by c k = if_taken (refusal_in c k) (taken c k) c
 
 -- what a list of calls leaves, made one after another, and the answers that they get
 abbrev pub left_by_all : {W : Type 0} → Contents W → List (Call W) → Contents W

@@ -49,8 +49,8 @@ abbrev pub is_undrawn : {W : Type 0} → Sketch W → ℕ → ℕ → Bool
 is_undrawn s q a = is_none (s.arc q a)
 
 -- the refusal that a call meets, if any, for memories of lengths n
-abbrev pub sketch_verdict : {W : Type 0} → Lengths → Sketch W → Call W → Option Told
-sketch_verdict n s k = verdict (sketch_size n s) (is_undrawn s) k
+abbrev pub refusal_on : {W : Type 0} → Lengths → Sketch W → Call W → Option Told
+refusal_on n s k = verdict (sketch_size n s) (is_undrawn s) k
 
 -- the sketch after a call that is taken: a start stands in place of an earlier one; an arc never does, since a second one is refused
 abbrev pub drawn_on : {W : Type 0} → Sketch W → Call W → Sketch W
@@ -68,11 +68,11 @@ drawn_on s (Start q w) =
 
 -- the sketch after a call, taken or refused
 abbrev pub sketched : {W : Type 0} → Lengths → Sketch W → Call W → Sketch W
-sketched n s k = if_taken (sketch_verdict n s k) (drawn_on s k) s
+sketched n s k = if_taken (refusal_on n s k) (drawn_on s k) s
 
 -- the answer to a call
 abbrev pub sketch_answer : {W : Type 0} → Lengths → Sketch W → Call W → Result (Unit {0}) Told
-sketch_answer n s k = judged (sketch_verdict n s k) tt
+sketch_answer n s k = judged (refusal_on n s k) tt
 
 -- the sketch of a list of calls, and the answers that they get, one after another
 abbrev pub sketch_of : {W : Type 0} → Lengths → Sketch W → List (Call W) → Sketch W

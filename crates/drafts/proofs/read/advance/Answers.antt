@@ -1,7 +1,7 @@
 use Rattle.std.proofs.Common.{◌≡◌, ◌≤◌, eqb, length, ◌+◌, Ok, Some, sym, ap, ◌∙◌, rules}
 use Rattle.std.proofs.lemmas.Result.{err_from_is_err_and}
 use Rattle.weights.specs.Refusal.{judged, told}
-use Rattle.tables.specs.Book.{taken, book_verdict}
+use Rattle.tables.specs.Book.{taken, refusal_in}
 use Rattle.tables.specs.Call.{if_taken}
 use Rattle.tables.specs.Held.{written}
 use Rattle.drafts.specs.Advancing.{reading_from}
@@ -18,7 +18,7 @@ returns-in_err-map_err-clause-read g c =
     let o = c.args.offset in
     let book = written c.args.book.now in
     let f = c.in_ok-field.field in
-    let v = book_verdict book f.call in
+    let v = refusal_in book f.call in
     let e = c.in_err-map_err.field-0.0 in
     let p = err_from_is_err_and c.from_residual-in_err-map_err.result c.from_residual-in_err-map_err.ensures.1 in
     let field = field_read k bs o c.read_field.result (Ok f) c.read_field.ensures c.in_ok-field.was in
@@ -38,7 +38,7 @@ returns-clause-read g c =
     let o = c.args.offset in
     let book = written c.args.book.now in
     let f = c.in_ok-field.field in
-    let v = book_verdict book f.call in
+    let v = refusal_in book f.call in
     let field = field_read k bs o c.read_field.result (Ok f) c.read_field.ensures c.in_ok-field.was in
     let answer =
     faulted-map_err Book o c.make.result c.map_err.result (judged v tt) _ c.make.ensures.answer c.map_err.ensures.cases (λ e f h. search rules) in
