@@ -11,7 +11,7 @@ use Rattle.tables.specs.declared.sheet.Sheet.{Sheet}
 use Rattle.tables.specs.declared.call.Call.TheVariants.{Rule}
 use Rattle.tables.specs.Book.{Contents, laid, place, unset, size_of, left_by, opened, answers_by, left_by_all}
 use Rattle.tables.specs.Sheet.{sheet_of, entry_at, leads, led_to, led_by, is_drawn, width, mean_at, sheet_table}
-use Rattle.tables.specs.Made.{calls_of, answers_in, Drawn}
+use Rattle.tables.specs.Made.{calls_of, answers_in, all_there, Drawn}
 use Rattle.tables.specs.declared.made.Made.{Made}
 use Rattle.tables.proofs.Drawing.{drawn_in_step, drawn_table, drawn_answers, drawn_has_places, drawn_some_places}
 use Rattle.minimize.specs.Memories.{Memories, Room}
@@ -35,7 +35,7 @@ module _ {W : Type 0} (ts : List ℕ) (ws : List W) (ms : List ℕ) (before : Li
 
   pub drawn_as :
       (K : Kind W) (after : List (Made W)) (b : Contents W) → calls_of after ≡ calls_of before →
-      answers_in after ≡ answers_by (opened ts ws ms) (calls_of before) →
+      answers_in after ≡ all_there (answers_by (opened ts ws ms) (calls_of before)) →
       b ≡ left_by_all (opened ts ws ms) (calls_of before) →
       Drawn K ts ws ms before after
       (laid b.targets b.weights b.marks (sketch_in (drawing ts ws ms before)).letters
@@ -44,7 +44,7 @@ module _ {W : Type 0} (ts : List ℕ) (ws : List W) (ms : List ℕ) (before : Li
       let sized = left_as b left in
       record {
         calls = calls;
-        answers = answers ∙ drawn_answers ts ws ms (calls_of before);
+        answers = answers ∙ ap all_there (drawn_answers ts ws ms (calls_of before));
         contents = sized;
         table = ap (sheet_table K) sized ∙ drawn_table ts ws ms (calls_of before) K;
       }

@@ -178,19 +178,19 @@ fn a_list_draws_each_arc_once(rt: HostRuntime) -> Result<(), Fail> {
     assert_eq!(rt;
         made.map(|one| one.answer),
         [
-            Err(Refusal::NoState),
-            Ok(()),
-            Err(Refusal::NoState),
-            Ok(()),
-            Ok(()),
-            Err(Refusal::NoState),
-            Err(Refusal::SecondArc),
-            Ok(()),
-            Err(Refusal::NoLetter),
-            Err(Refusal::SecondArc),
-            Ok(()),
-            Ok(()),
-            Err(Refusal::SecondArc),
+            Some(Err(Refusal::NoState)),
+            Some(Ok(())),
+            Some(Err(Refusal::NoState)),
+            Some(Ok(())),
+            Some(Ok(())),
+            Some(Err(Refusal::NoState)),
+            Some(Err(Refusal::SecondArc)),
+            Some(Ok(())),
+            Some(Err(Refusal::NoLetter)),
+            Some(Err(Refusal::SecondArc)),
+            Some(Ok(())),
+            Some(Ok(())),
+            Some(Err(Refusal::SecondArc)),
         ]
     );
     Ok(())

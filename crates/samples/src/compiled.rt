@@ -270,7 +270,6 @@ fn short_memories_are_refused_with_6(rt: HostRuntime) -> Result<(), Fail> {
 // memory that is too short to compile in is refused before a call is made.
 #[test]
 fn calls_are_drawn_and_compiled(rt: HostRuntime) -> Result<(), Fail> {
-    let unasked = Err(Refusal::NoCode);
     let mut made = [
         Call::State { accepting: false },
         Call::State { accepting: true },
@@ -304,10 +303,7 @@ fn calls_are_drawn_and_compiled(rt: HostRuntime) -> Result<(), Fail> {
             weight: Check(7),
         },
     ]
-    .map(|call| Made {
-        call,
-        answer: unasked,
-    });
+    .map(Made::new);
     let mut book_targets = [9u16; 3];
     let mut book_weights = [Check(9); 3];
     let mut book_marks = [9u8; 2];
@@ -350,7 +346,7 @@ fn calls_are_drawn_and_compiled(rt: HostRuntime) -> Result<(), Fail> {
         );
         if short {
             assert_eq!(rt; drawn, Err(Refusal::ShortMemory));
-            assert!(rt; made.iter().all(|one| one.answer == unasked));
+            assert!(rt; made.iter().all(|one| one.answer.is_none()));
             assert_eq!(rt; book_targets, [9; 3]);
             assert_eq!(rt; least_targets, [9; 4]);
         } else {
@@ -361,14 +357,14 @@ fn calls_are_drawn_and_compiled(rt: HostRuntime) -> Result<(), Fail> {
     assert_eq!(rt;
         answers,
         [
-            Ok(()),
-            Ok(()),
-            Err(Refusal::NoRoom),
-            Ok(()),
-            Err(Refusal::NoState),
-            Ok(()),
-            Err(Refusal::SecondArc),
-            Ok(()),
+            Some(Ok(())),
+            Some(Ok(())),
+            Some(Err(Refusal::NoRoom)),
+            Some(Ok(())),
+            Some(Err(Refusal::NoState)),
+            Some(Ok(())),
+            Some(Err(Refusal::SecondArc)),
+            Some(Ok(())),
         ]
     );
     assert_eq!(rt; book_targets, [0, 1, 1]);

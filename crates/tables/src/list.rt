@@ -12,7 +12,7 @@ pub fn make_all<W: Weight>(book: &mut Book<'_, W>, made: &mut [Made<W>])
     ensures { MakesAll book.old book.new made.old made.new }
 {
     for one in made.iter_mut() {
-        one.answer = make(book, one.call);
+        one.answer = Some(make(book, one.call));
     }
 }
 
