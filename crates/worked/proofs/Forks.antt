@@ -11,7 +11,7 @@ use Rattle.theory.specs.Runs.{led, Closed}
 use Rattle.theory.proofs.Tests.{all_below, all_both, at_both, is_closed, closed_there}
 use Rattle.theory.proofs.WorkedTables.{fork_merges, fork_keeps}
 use Rattle.worked.specs.Drafts.{Correct, merging_draft, keeping_draft, check, fork_calls, room_for}
-use Rattle.worked.proofs.Answering.{SinkTests, sink_marks, all_co_kernel, correct}
+use Rattle.worked.proofs.Answering.{SinkTests, sink_marks, all_co_kernel, minimized}
 use Rattle.worked.proofs.Cases.{below_4}
 use Rattle.worked.proofs.Part.{Part, part_least}
 use Rattle.worked.proofs.Sink.{holds_fast, sinks, led_co_kernel}
@@ -64,24 +64,34 @@ co_kernel x fast q l =
     led_co_kernel (fork_least x) 3 fast (omega arith) refl q (1 ∷ 0 ∷ []) (omega arith, (omega arith, tt))
     (below_4 (λ q. led (fork_least x) q (1 ∷ 0 ∷ []) ≡ 3) refl refl refl refl q l)
 
-merging_sink : SinkTests merging_draft 3 2
+merging_sink : SinkTests units_257 merging_draft.minimized 3 2
 unfolding all_below holds_fast sinks
 merging_sink = record { some_letter = omega arith; fast = refl; few = refl; marks = λ q. refl }
 
-keeping_sink : SinkTests keeping_draft 3 2
+keeping_sink : SinkTests units_257 keeping_draft.minimized 3 2
 unfolding all_below holds_fast sinks
 keeping_sink = record { some_letter = omega arith; fast = refl; few = refl; marks = λ q. refl }
 
 pub merging_correct : Correct merging_draft
 unfolding all_below all_both holds_fast
 merging_correct =
-    correct merging_draft refl (drawn_lawful 10)
-    (part_least units_257 (drawn 10) (fork 10) (drawn_part 10 refl) merging_draft.least fork_merges.least)
-    (sink_marks merging_draft 3 2 merging_sink) (all_co_kernel merging_draft (λ q. refl) (co_kernel 10 refl)) fork_merges.hyper
+    let m = merging_draft.minimized in
+    record {
+      taken = refl;
+      minimized =
+          minimized units_257 m (drawn 10) (drawn_lawful 10)
+          (part_least units_257 (drawn 10) (fork 10) (drawn_part 10 refl) m.least fork_merges.least)
+          (sink_marks units_257 m 3 2 merging_sink) (all_co_kernel units_257 m (λ q. refl) (co_kernel 10 refl)) fork_merges.hyper;
+    }
 
 pub keeping_correct : Correct keeping_draft
 unfolding all_below all_both holds_fast
 keeping_correct =
-    correct keeping_draft refl (drawn_lawful 11)
-    (part_least units_257 (drawn 11) (fork 11) (drawn_part 11 refl) keeping_draft.least fork_keeps.least)
-    (sink_marks keeping_draft 3 2 keeping_sink) (all_co_kernel keeping_draft (λ q. refl) (co_kernel 11 refl)) fork_keeps.hyper
+    let m = keeping_draft.minimized in
+    record {
+      taken = refl;
+      minimized =
+          minimized units_257 m (drawn 11) (drawn_lawful 11)
+          (part_least units_257 (drawn 11) (fork 11) (drawn_part 11 refl) m.least fork_keeps.least)
+          (sink_marks units_257 m 3 2 keeping_sink) (all_co_kernel units_257 m (λ q. refl) (co_kernel 11 refl)) fork_keeps.hyper;
+    }

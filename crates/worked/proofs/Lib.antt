@@ -8,5 +8,6 @@ mod Dying
 mod Small
 mod Forks
 mod Spin
+mod Rings
 mod Round
 mod Listed

@@ -25,7 +25,7 @@ check_code x =
     (record { 0 = n % 256 }, cond-true (is_unit n) _ _ (number_unit x.0), chosen_path _ _ (number_stored (n % 256) n refl (number_unit x.0))))
     (λ x y e. ap (λ z. z.at) e) x (omega arith)
 
-merging_listing : listing_text check_kind check_codes merging_draft.hyper 4 3 1 6 ≡ text
+merging_listing : listing_text check_kind check_codes merging_draft.minimized.hyper 4 3 1 6 ≡ text
 merging_listing =
     simp (
       check_code (check 1),
@@ -45,18 +45,19 @@ merging_listing =
 
 merging_text : HyperText check_kind check_codes (source merging_draft) text
 merging_text =
+    let m = merging_draft.minimized in
+    let x = merging_correct.minimized in
     record {
-      least = merging_draft.least;
-      is_least = merging_correct.least;
-      hyper = merging_draft.hyper;
-      representative = merging_draft.representative;
-      factor = merging_draft.factor;
-      is_hyper = merging_correct.hyper;
-      kernel = merging_draft.kernel;
+      least = m.least;
+      is_least = x.least;
+      hyper = m.hyper;
+      representative = m.representative;
+      factor = m.factor;
+      is_hyper = x.hyper;
+      kernel = m.kernel;
       is_kernel =
-          below_4 (λ q. Tells (merging_draft.kernel q) (Kernel merging_draft.least q) (Preamble merging_draft.least q))
-          (merging_correct.preamble 0 (omega arith) refl) (merging_correct.preamble 1 (omega arith) refl)
-          (merging_correct.preamble 2 (omega arith) refl) (merging_correct.kernel 3 (omega arith) refl);
+          below_4 (λ q. Tells (m.kernel q) (Kernel m.least q) (Preamble m.least q)) (x.preamble 0 (omega arith) refl)
+          (x.preamble 1 (omega arith) refl) (x.preamble 2 (omega arith) refl) (x.kernel 3 (omega arith) refl);
       is_text = sym merging_listing;
     }
 

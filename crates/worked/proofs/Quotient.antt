@@ -5,6 +5,8 @@ use Rattle.std.specs.Cmp.{booleans_Decides}
 use Rattle.std.proofs.lemmas.Bool.{ltb-true, eqb-true}
 use Rattle.weights.specs.Codes.{within}
 use Rattle.weights.specs.Group.{Group}
+use Rattle.weights.specs.Numbers.{chosen_path}
+use Rattle.weights.specs.Wheel.{places}
 use Rattle.tables.specs.Table.{Table, Word, scaled, weight_from}
 use Rattle.tables.proofs.Reading.{scaled_twice}
 use Rattle.theory.specs.Runs.{led, accepts, Reachable, Dead}
@@ -194,6 +196,10 @@ module _ (G : Group) (t u : Table G.Mean) (n : ℕ) (class : ℕ → ℕ) (facto
             };
         order = h.order;
       }
+
+-- the places of a wheel are numbers
+abbrev pub coded : (k : ℕ) (pos : 0 < k) → Coded (places k pos)
+coded k pos = record { number = λ x. x.at; injective = chosen_path }
 
 -- the same, by tests
 pub record QuotientTests (G : Group) (c : Coded G) (t u : Table G.Mean) (n : ℕ) (class : ℕ → ℕ) (factor : ℕ → G.Mean) : Type 0 where

@@ -1,28 +1,26 @@
 -- The drafts of the wheel and of the beam wheel are correct. Assumes nothing.
-use Rattle.std.proofs.Common.{◌≡◌, ℕ, ◌<◌, true, cond, eqb, List, [], ◌∷◌, get_or, map, Ok, lit<, arith, rules}
+use Rattle.std.proofs.Common.{◌≡◌, ℕ, true, cond, eqb, List, [], ◌∷◌, get_or, map, Ok, lit<, arith, rules}
 use Rattle.weights.specs.Group.{Kind}
-use Rattle.weights.specs.Numbers.{chosen_path}
-use Rattle.weights.specs.Wheel.{Place, places, wheel_place, beam_wheel_place}
+use Rattle.weights.specs.Wheel.{Place, wheel_place, beam_wheel_place}
 use Rattle.tables.specs.Sketch.{blank, answers_of}
 use Rattle.tables.specs.Table.{Lawful}
 use Rattle.theory.specs.Least.{Least}
 use Rattle.theory.proofs.Tests.{all_below, any_below, all_both, is_word, is_closed, closed_there, Coded, same, ratio}
 use Rattle.theory.proofs.LeastTests.{is_first, is_met, differ, LeastTests, tested_least}
 use Rattle.theory.proofs.HyperTests.{goes_round, settles, diverge, Witnesses, HyperTests, tested_hyper, all_co_kernel, marked_kernel, other_preamble}
-use Rattle.worked.specs.Drafts.{Draft, Correct, source, wheel_draft, beam_wheel_draft}
-use Rattle.worked.proofs.Answering.{all_co_kernel as marked_co_kernel, correct}
-use Rattle.worked.proofs.Quotient.{QuotientTests, tested_quotient, quotient_least}
-
--- the places of a wheel are numbers
-abbrev coded : (k : ℕ) (pos : 0 < k) → Coded (places k pos)
-coded k pos = record { number = λ x. x.at; injective = chosen_path }
+use Rattle.worked.specs.Drafts.{Minimized, Draft, Correct, source, wheel_draft, beam_wheel_draft}
+use Rattle.worked.proofs.Answering.{all_co_kernel as marked_co_kernel, minimized}
+use Rattle.worked.proofs.Quotient.{QuotientTests, tested_quotient, quotient_least, coded}
 
 module _ {W : Type 0} {K : Kind W} (d : Draft K) where
+  abbrev m : Minimized K.group
+  m = d.minimized
+
   -- from the one kernel state letter 0 leads back, and every state leads there by two letters
   abbrev witnesses : Witnesses
   witnesses =
       record {
-        kernel = d.kernel;
+        kernel = m.kernel;
         before = 0 ∷ 0 ∷ [];
         round = 0 ∷ [];
         after = λ q. [];
@@ -35,7 +33,7 @@ module _ {W : Type 0} {K : Kind W} (d : Draft K) where
 
   -- the smallest word that is accepted from a state
   abbrev first : ℕ → List ℕ
-  first q = cond (d.least.final q) [] (0 ∷ [])
+  first q = cond (m.least.final q) [] (0 ∷ [])
 
   -- Word by q leads to state q of the least table, and the words of one letter tell its states apart. A drawn state has a class
   -- there, and a factor.
@@ -44,10 +42,10 @@ module _ {W : Type 0} {K : Kind W} (d : Draft K) where
     states : (source d).states ≡ 5
     letters : (source d).letters ≡ 2
     closed : is_closed (source d) ≡ true
-    drawn : QuotientTests K.group c (source d) d.least 4 class factor
-    least : LeastTests K.group c d.least d.least by first (0 ∷ []) (1 ∷ [])
-    hyper : HyperTests K.group c d.least d.hyper d.representative d.factor witnesses
-    co_kernel : (q : ℕ) → d.co_kernel q ≡ true
+    drawn : QuotientTests K.group c (source d) m.least 4 class factor
+    least : LeastTests K.group c m.least m.least by first (0 ∷ []) (1 ∷ [])
+    hyper : HyperTests K.group c m.least m.hyper m.representative m.factor witnesses
+    co_kernel : (q : ℕ) → m.co_kernel q ≡ true
 
   module _ (c : Coded K.group) (by : ℕ → List ℕ) (class : ℕ → ℕ) (factor : ℕ → K.group.Mean) (x : Tests c by class factor) where
     lawful : Lawful (source d)
@@ -62,21 +60,25 @@ module _ {W : Type 0} {K : Kind W} (d : Draft K) where
           target_inside = closed.target_inside;
         }
 
-    least : Least K.group (source d) d.least
+    least : Least K.group (source d) m.least
     least =
-        quotient_least K.group (source d) d.least 4 class factor
-        (tested_quotient K.group c (source d) d.least 4 class factor x.drawn) d.least
-        (tested_least K.group c d.least d.least by first (0 ∷ []) (1 ∷ []) x.least)
+        quotient_least K.group (source d) m.least 4 class factor
+        (tested_quotient K.group c (source d) m.least 4 class factor x.drawn) m.least
+        (tested_least K.group c m.least m.least by first (0 ∷ []) (1 ∷ []) x.least)
 
     tested : Correct d
     tested =
-        correct d x.taken lawful least
-        (record {
-          kernel = marked_kernel K.group c d.least d.hyper d.representative d.factor witnesses x.hyper;
-          preamble = λ q l e. other_preamble K.group c d.least d.hyper d.representative d.factor witnesses x.hyper q e;
-        })
-        (marked_co_kernel d x.co_kernel (all_co_kernel K.group c d.least d.hyper d.representative d.factor witnesses x.hyper))
-        (tested_hyper K.group c d.least d.hyper d.representative d.factor witnesses x.hyper)
+        record {
+          taken = x.taken;
+          minimized =
+              minimized K.group m (source d) lawful least
+              (record {
+                kernel = marked_kernel K.group c m.least m.hyper m.representative m.factor witnesses x.hyper;
+                preamble = λ q l e. other_preamble K.group c m.least m.hyper m.representative m.factor witnesses x.hyper q e;
+              })
+              (marked_co_kernel K.group m x.co_kernel (all_co_kernel K.group c m.least m.hyper m.representative m.factor witnesses x.hyper))
+              (tested_hyper K.group c m.least m.hyper m.representative m.factor witnesses x.hyper);
+        }
 
 -- states 1 and 2 have one class on the wheel, and each its own on the beam wheel; the factor of state 2 is 360
 wheel_by : ℕ → List ℕ

@@ -13,7 +13,7 @@ use Rattle.theory.proofs.Determined.Canonical.{Canonical}
 use Rattle.theory.proofs.Search.{final_push, push_unique, live_not_dead}
 use Rattle.theory.proofs.Tests.{all_below, all_both, is_closed, closed_there}
 use Rattle.worked.specs.Drafts.{Correct, source, new_book_draft, one_state_draft, off_alone}
-use Rattle.worked.proofs.Answering.{sink_marks, none_co_kernel, correct}
+use Rattle.worked.proofs.Answering.{sink_marks, none_co_kernel, minimized}
 use Rattle.worked.proofs.Cases.{below_1, below_2, arcs_1, arcs_2}
 use Rattle.worked.proofs.Dying.{dying_hyper}
 use Rattle.worked.proofs.Own.{own_least}
@@ -95,24 +95,29 @@ off_part =
 pub new_book_correct : Correct new_book_draft
 unfolding sinks
 new_book_correct =
-    correct new_book_draft refl
-    (record {
-      some_state = omega arith;
-      few_states = omega arith;
-      some_letter = omega arith;
-      few_letters = omega arith;
-      start_inside = omega arith;
-      target_inside = arcs_1 (λ q a. (source new_book_draft).target q a < 1) (omega arith);
-    })
-    (part_least units_257 (source new_book_draft) (off_alone 1) off_part (off_alone 1) (own_least units_257 (off_alone 1) off_canonical))
-    (sink_marks new_book_draft 0 0 (record { some_letter = omega arith; fast = off_fast; few = refl; marks = λ q. refl }))
-    (none_co_kernel new_book_draft (λ q. refl)
-    (below_1 (CoPreamble (off_alone 1)) (sunk_co_preamble (off_alone 1) 0 off_fast refl 0 0 refl)))
-    off_hyper
+    let m = new_book_draft.minimized in
+    record {
+      taken = refl;
+      minimized =
+          minimized units_257 m (source new_book_draft)
+          (record {
+            some_state = omega arith;
+            few_states = omega arith;
+            some_letter = omega arith;
+            few_letters = omega arith;
+            start_inside = omega arith;
+            target_inside = arcs_1 (λ q a. (source new_book_draft).target q a < 1) (omega arith);
+          })
+          (part_least units_257 (source new_book_draft) (off_alone 1) off_part (off_alone 1) (own_least units_257 (off_alone 1) off_canonical))
+          (sink_marks units_257 m 0 0 (record { some_letter = omega arith; fast = off_fast; few = refl; marks = λ q. refl }))
+          (none_co_kernel units_257 m (λ q. refl)
+          (below_1 (CoPreamble (off_alone 1)) (sunk_co_preamble (off_alone 1) 0 off_fast refl 0 0 refl)))
+          off_hyper;
+    }
 
 -- one state: state 1 is the sink
 abbrev two : Table Residue
-two = one_state_draft.least
+two = one_state_draft.minimized.least
 
 two_fast : holds_fast two 1 ≡ true
 unfolding all_below holds_fast
@@ -165,10 +170,10 @@ two_canonical =
           };
     }
 
-two_hyper : Hyper units_257 two one_state_draft.hyper one_state_draft.representative one_state_draft.factor
+two_hyper : Hyper units_257 two one_state_draft.minimized.hyper one_state_draft.minimized.representative one_state_draft.minimized.factor
 unfolding all_below sinks
 two_hyper =
-    dying_hyper units_257 two one_state_draft.hyper 1 1
+    dying_hyper units_257 two one_state_draft.minimized.hyper 1 1
     (record {
       inside = omega arith;
       start_inside = omega arith;
@@ -180,8 +185,8 @@ two_hyper =
       states = refl;
       letters = refl;
       final = refl;
-      target = below_1 (λ a. one_state_draft.hyper.target 0 a ≡ 0) refl;
-      weight = below_1 (λ a. one_state_draft.hyper.weight 0 a ≡ two.weight 1 a) refl;
+      target = below_1 (λ a. one_state_draft.minimized.hyper.target 0 a ≡ 0) refl;
+      weight = below_1 (λ a. one_state_draft.minimized.hyper.weight 0 a ≡ two.weight 1 a) refl;
       start = refl;
       start_weight = refl;
     })
@@ -201,17 +206,22 @@ two_part =
 pub one_state_correct : Correct one_state_draft
 unfolding all_below sinks
 one_state_correct =
-    correct one_state_draft refl
-    (record {
-      some_state = omega arith;
-      few_states = omega arith;
-      some_letter = omega arith;
-      few_letters = omega arith;
-      start_inside = omega arith;
-      target_inside = arcs_2 (λ q a. (source one_state_draft).target q a < 2) (omega arith) (omega arith);
-    })
-    (part_least units_257 (source one_state_draft) two two_part two (own_least units_257 two two_canonical))
-    (sink_marks one_state_draft 1 1 (record { some_letter = omega arith; fast = two_fast; few = refl; marks = λ q. refl }))
-    (none_co_kernel one_state_draft (λ q. refl)
-    (below_2 (CoPreamble two) (sunk_co_preamble two 1 two_fast refl 1 0 refl) (sunk_co_preamble two 1 two_fast refl 1 1 refl)))
-    two_hyper
+    let m = one_state_draft.minimized in
+    record {
+      taken = refl;
+      minimized =
+          minimized units_257 m (source one_state_draft)
+          (record {
+            some_state = omega arith;
+            few_states = omega arith;
+            some_letter = omega arith;
+            few_letters = omega arith;
+            start_inside = omega arith;
+            target_inside = arcs_2 (λ q a. (source one_state_draft).target q a < 2) (omega arith) (omega arith);
+          })
+          (part_least units_257 (source one_state_draft) two two_part two (own_least units_257 two two_canonical))
+          (sink_marks units_257 m 1 1 (record { some_letter = omega arith; fast = two_fast; few = refl; marks = λ q. refl }))
+          (none_co_kernel units_257 m (λ q. refl)
+          (below_2 (CoPreamble two) (sunk_co_preamble two 1 two_fast refl 1 0 refl) (sunk_co_preamble two 1 two_fast refl 1 1 refl)))
+          two_hyper;
+    }

@@ -1,6 +1,6 @@
 -- The spinning draft is correct. Assumes nothing.
 use Rattle.std.proofs.Common.{◌≡◌, ℕ, ◌<◌, true, eqb, [], ◌∷◌, refl, arith}
-use Rattle.std.proofs.lemmas.Bool.{both_ways, eqb-true}
+use Rattle.std.proofs.lemmas.Bool.{eqb-true}
 use Rattle.weights.specs.Numbers.{chosen_path}
 use Rattle.weights.specs.Wheel.{Place, wheel_kind}
 use Rattle.tables.specs.Table.{Table}
@@ -10,7 +10,7 @@ use Rattle.theory.specs.Runs.{led, Closed}
 use Rattle.theory.proofs.Tests.{all_below, all_both, at_both, is_closed, closed_there}
 use Rattle.theory.proofs.WorkedTables.{spin_keeps}
 use Rattle.worked.specs.Drafts.{Correct, source, spinning_draft}
-use Rattle.worked.proofs.Answering.{all_co_kernel, correct}
+use Rattle.worked.proofs.Answering.{all_kernel, all_co_kernel, minimized}
 use Rattle.worked.proofs.Cases.{below_4}
 use Rattle.worked.proofs.Part.{Part, part_least}
 use Rattle.worked.proofs.Sink.{holds_fast, led_co_kernel}
@@ -56,15 +56,19 @@ co_kernel q l =
 
 pub spinning_correct : Correct spinning_draft
 spinning_correct =
-    correct spinning_draft refl
-    (record {
-      some_state = omega arith;
-      few_states = omega arith;
-      some_letter = omega arith;
-      few_letters = omega arith;
-      start_inside = drawn_closed.start_inside;
-      target_inside = drawn_closed.target_inside;
-    })
-    (part_least wheel_kind.group drawn spin drawn_part spin spin_keeps.least)
-    (record { kernel = λ q m e. spin_keeps.kernel q m; preamble = λ q m e. absurd (both_ways true e refl) })
-    (all_co_kernel spinning_draft (λ q. refl) co_kernel) spin_keeps.hyper
+    let m = spinning_draft.minimized in
+    record {
+      taken = refl;
+      minimized =
+          minimized wheel_kind.group m drawn
+          (record {
+            some_state = omega arith;
+            few_states = omega arith;
+            some_letter = omega arith;
+            few_letters = omega arith;
+            start_inside = drawn_closed.start_inside;
+            target_inside = drawn_closed.target_inside;
+          })
+          (part_least wheel_kind.group drawn spin drawn_part spin spin_keeps.least)
+          (all_kernel wheel_kind.group m (λ q. refl) spin_keeps.kernel) (all_co_kernel wheel_kind.group m (λ q. refl) co_kernel) spin_keeps.hyper;
+    }

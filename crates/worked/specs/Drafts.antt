@@ -1,10 +1,10 @@
--- Worked drafts: the calls that draw a book, and the least and the hyper table of the closed book. Assumes nothing.
+-- Worked drafts: tables that calls draw and tables of other sources, each with its least and its hyper table. Assumes nothing.
 use Rattle.std.specs.Prelude.{◌≡◌, ℕ, ◌+◌, ◌-◌, ◌*◌, ◌%◌, ◌<◌, Bool, true, false, ◌==◌, List, [], ◌∷◌, ◌++◌, length, map, Some, None, Ok, codes}
 use Rattle.std.specs.List.{flat_map, range_with_len}
 use Rattle.weights.specs.Check.{Residue, residue_of, units_257, check_kind}
 use Rattle.weights.specs.Codes.{check_codes}
-use Rattle.weights.specs.Group.{Kind}
-use Rattle.weights.specs.Wheel.{wheel_kind, wheel_place, beam_wheel_kind, beam_wheel_place}
+use Rattle.weights.specs.Group.{Group, Kind}
+use Rattle.weights.specs.Wheel.{Place, wheel_kind, wheel_place, beam_wheel_kind, beam_wheel_place}
 use Rattle.weights.specs.declared.check.Check.{Check}
 use Rattle.weights.specs.declared.wheel.Wheel.{Wheel}
 use Rattle.weights.specs.declared.beam_wheel.BeamWheel.{BeamWheel}
@@ -12,6 +12,8 @@ use Rattle.tables.specs.Sketch.{Lengths, blank, sketch_of, sketch_table, answers
 use Rattle.tables.specs.Table.{Table, weight_of}
 use Rattle.tables.specs.declared.call.Call.{Call}
 use Rattle.tables.specs.declared.call.Call.TheVariants.{Rule, State, Arc, Start}
+use Rattle.sources.specs.Ring.{ring_verdict, ring_table}
+use Rattle.sources.specs.Both.{both_verdict, both_table}
 use Rattle.drafts.specs.Draft.{listing}
 use Rattle.drafts.specs.Written.{field_of}
 use Rattle.theory.specs.Series.{AlmostEquivalent, WeighAlikeFrom}
@@ -23,17 +25,70 @@ use Rattle.minimize.specs.Compile.{mark_of}
 use Rattle.listings.specs.File.{FileText}
 use Rattle.theory.specs.Examples.{written, fork_least, fork_hyper, fork_representative, fork_factor, spin, spin_representative, spin_factor}
 
--- a draft and what it comes to: the calls on a new book over so much memory, the least table of the closed book, which of its
--- states are kernel and which co-kernel, and the hyper table with its representatives and factors
+-- what a table is minimized to: its least table, which of the states of that are kernel and which co-kernel, and the hyper table
+-- with its representatives and factors
+pub record Minimized (G : Group) : Type 0 where
+  pub least : Table G.Mean
+  pub kernel : ℕ → Bool
+  pub co_kernel : ℕ → Bool
+  pub hyper : Table G.Mean
+  pub representative : ℕ → ℕ
+  pub factor : ℕ → G.Mean
+
+-- How many states a table, its least and its hyper table have, and how many of the least table's are kernel. Words of the agreement
+-- length or more weigh alike in the table and its hyper table.
+pub record Counts : Type 0 where
+  pub source : ℕ
+  pub least : ℕ
+  pub hyper : ℕ
+  pub kernel : ℕ
+  pub agreement : ℕ
+
+abbrev pub counts : {G : Group} → Table G.Mean → Minimized G → Counts
+counts t m =
+    record {
+      source = t.states;
+      least = m.least.states;
+      hyper = m.hyper.states;
+      kernel = count_below m.kernel m.least.states;
+      agreement = 2 * m.least.states - 2;
+    }
+
+-- the marks of the states of the least table, in order
+abbrev pub marks : {G : Group} → Minimized G → List ℕ
+marks m = map (λ q. mark_of (m.least.final q) (m.kernel q) (m.co_kernel q)) (range_with_len 0 m.least.states)
+
+-- table t is minimized to m, and to no other tables
+pub record MinimizedTo (G : Group) (t : Table G.Mean) (m : Minimized G) : Type 0 where
+  pub least : Least G t m.least
+  pub only_least : (l : Table G.Mean) → Least G t l → SameTable G m.least l
+  pub kernel : (q : ℕ) → q < m.least.states → m.kernel q ≡ true → Kernel m.least q
+  pub preamble : (q : ℕ) → q < m.least.states → m.kernel q ≡ false → Preamble m.least q
+  pub co_kernel : (q : ℕ) → q < m.least.states → m.co_kernel q ≡ true → CoKernel m.least q
+  pub co_preamble : (q : ℕ) → q < m.least.states → m.co_kernel q ≡ false → CoPreamble m.least q
+  pub hyper : Hyper G m.least m.hyper m.representative m.factor
+  pub only_hyper :
+      (h : Table G.Mean) (r : ℕ → ℕ) (f : ℕ → G.Mean) → Hyper G m.least h r f →
+      SameHyper G m.least m.hyper h m.representative r m.factor f
+  pub agree : WeighAlikeFrom G (counts t m).agreement t m.hyper
+
+-- a least table of co-kernel states, no two of them almost-equivalent, which is its own hyper table
+abbrev pub unmerged : (G : Group) → Table G.Mean → (ℕ → Bool) → Minimized G
+unmerged G least kernel =
+    record {
+      least = least;
+      kernel = kernel;
+      co_kernel = λ q. true;
+      hyper = least;
+      representative = λ q. q;
+      factor = λ q. G.one;
+    }
+
+-- a draft: the calls on a new book over so much memory, and what the table of the closed book is minimized to
 pub record Draft {W : Type 0} (K : Kind W) : Type 0 where
   pub room : Lengths
   pub calls : List (Call W)
-  pub least : Table K.group.Mean
-  pub kernel : ℕ → Bool
-  pub co_kernel : ℕ → Bool
-  pub hyper : Table K.group.Mean
-  pub representative : ℕ → ℕ
-  pub factor : ℕ → K.group.Mean
+  pub minimized : Minimized K.group
 
 -- memories with just enough room for n states over s letters
 abbrev pub room_for : ℕ → ℕ → Lengths
@@ -43,43 +98,13 @@ room_for n s = record { targets = 1 + n * s; weights = 1 + n * s; marks = n }
 abbrev pub source : {W : Type 0} {K : Kind W} → Draft K → Table K.group.Mean
 source {K = K} d = sketch_table K (sketch_of d.room blank d.calls)
 
--- How many states the closed book, the least and the hyper table have, and how many of the least table's are kernel. Words of the
--- agreement length or more weigh alike in the closed book and the hyper table.
-pub record Counts : Type 0 where
-  pub closed : ℕ
-  pub least : ℕ
-  pub hyper : ℕ
-  pub kernel : ℕ
-  pub agreement : ℕ
-
-abbrev pub counts : {W : Type 0} {K : Kind W} → Draft K → Counts
-counts d =
-    record {
-      closed = (source d).states;
-      least = d.least.states;
-      hyper = d.hyper.states;
-      kernel = count_below d.kernel d.least.states;
-      agreement = 2 * d.least.states - 2;
-    }
-
--- the marks of the states of the least table, in order
-abbrev pub marks : {W : Type 0} {K : Kind W} → Draft K → List ℕ
-marks d = map (λ q. mark_of (d.least.final q) (d.kernel q) (d.co_kernel q)) (range_with_len 0 d.least.states)
-
--- the book takes each call, and the tables and the marks are what the draft says they are, and the only ones
+-- the book takes each call, and the table of the closed book is minimized as the draft says
 pub record Correct {W : Type 0} {K : Kind W} (d : Draft K) : Type 0 where
   pub taken : answers_of d.room blank d.calls ≡ map (λ k. Ok tt) d.calls
-  pub least : Least K.group (source d) d.least
-  pub only_least : (l : Table K.group.Mean) → Least K.group (source d) l → SameTable K.group d.least l
-  pub kernel : (q : ℕ) → q < d.least.states → d.kernel q ≡ true → Kernel d.least q
-  pub preamble : (q : ℕ) → q < d.least.states → d.kernel q ≡ false → Preamble d.least q
-  pub co_kernel : (q : ℕ) → q < d.least.states → d.co_kernel q ≡ true → CoKernel d.least q
-  pub co_preamble : (q : ℕ) → q < d.least.states → d.co_kernel q ≡ false → CoPreamble d.least q
-  pub hyper : Hyper K.group d.least d.hyper d.representative d.factor
-  pub only_hyper :
-      (h : Table K.group.Mean) (r : ℕ → ℕ) (f : ℕ → K.group.Mean) → Hyper K.group d.least h r f →
-      SameHyper K.group d.least d.hyper h d.representative r d.factor f
-  pub agree : WeighAlikeFrom K.group (counts d).agreement (source d) d.hyper
+  pub minimized : MinimizedTo K.group (source d) d.minimized
+
+abbrev pub draft_counts : {W : Type 0} {K : Kind W} → Draft K → Counts
+draft_counts d = counts (source d) d.minimized
 
 -- the check number of a code
 abbrev pub check : ℕ → Check
@@ -94,12 +119,15 @@ abbrev pub new_book_draft : Draft check_kind
 new_book_draft = record {
   room = room_for 0 1;
   calls = [];
-  least = off_alone 1;
-  kernel = λ q. q == 0;
-  co_kernel = λ q. false;
-  hyper = off_alone 1;
-  representative = λ q. 0;
-  factor = λ q. residue_of 1;
+  minimized =
+      record {
+        least = off_alone 1;
+        kernel = λ q. q == 0;
+        co_kernel = λ q. false;
+        hyper = off_alone 1;
+        representative = λ q. 0;
+        factor = λ q. residue_of 1;
+      };
 }
 
 -- One final state, and no arc, so that its arc leads to the off state, which is state 1. It is redirected there.
@@ -107,13 +135,16 @@ abbrev pub one_state_draft : Draft check_kind
 one_state_draft = record {
   room = room_for 1 1;
   calls = State true ∷ Start 0 (check 5) ∷ [];
-  least =
-      written residue_of 1 5 (true ∷ false ∷ []) ((1 ∷ []) ∷ (1 ∷ []) ∷ []) ((1 ∷ []) ∷ (1 ∷ []) ∷ []);
-  kernel = λ q. q == 1;
-  co_kernel = λ q. false;
-  hyper = off_alone 5;
-  representative = λ q. 1;
-  factor = λ q. residue_of 1;
+  minimized =
+      record {
+        least =
+            written residue_of 1 5 (true ∷ false ∷ []) ((1 ∷ []) ∷ (1 ∷ []) ∷ []) ((1 ∷ []) ∷ (1 ∷ []) ∷ []);
+        kernel = λ q. q == 1;
+        co_kernel = λ q. false;
+        hyper = off_alone 5;
+        representative = λ q. 1;
+        factor = λ q. residue_of 1;
+      };
 }
 
 -- The calls that draw the fork of theory's examples, with weights named by their codes. No arc leads to the off state.
@@ -131,12 +162,15 @@ abbrev pub merging_draft : Draft check_kind
 merging_draft = record {
   room = room_for 4 2;
   calls = fork_calls check 10;
-  least = fork_least 10;
-  kernel = λ q. q == 3;
-  co_kernel = λ q. true;
-  hyper = fork_hyper;
-  representative = fork_representative;
-  factor = fork_factor;
+  minimized =
+      record {
+        least = fork_least 10;
+        kernel = λ q. q == 3;
+        co_kernel = λ q. true;
+        hyper = fork_hyper;
+        representative = fork_representative;
+        factor = fork_factor;
+      };
 }
 
 -- The fork at 11: no state is redirected.
@@ -144,12 +178,7 @@ abbrev pub keeping_draft : Draft check_kind
 keeping_draft = record {
   room = room_for 4 2;
   calls = fork_calls check 11;
-  least = fork_least 11;
-  kernel = λ q. q == 3;
-  co_kernel = λ q. true;
-  hyper = fork_least 11;
-  representative = λ q. q;
-  factor = λ q. residue_of 1;
+  minimized = unmerged units_257 (fork_least 11) (λ q. q == 3);
 }
 
 -- the wheel number of a place
@@ -167,12 +196,15 @@ spinning_draft = record {
       Arc 2 0 3 (wheel 0) ∷ Arc 2 1 3 (wheel 0) ∷ Arc 2 2 3 (wheel 0) ∷
       Arc 3 0 3 (wheel 1) ∷ Arc 3 1 3 (wheel 1) ∷ Arc 3 2 3 (wheel 1) ∷
       Start 0 (wheel 0) ∷ [];
-  least = spin;
-  kernel = λ q. true;
-  co_kernel = λ q. true;
-  hyper = spin;
-  representative = spin_representative;
-  factor = spin_factor;
+  minimized =
+      record {
+        least = spin;
+        kernel = λ q. true;
+        co_kernel = λ q. true;
+        hyper = spin;
+        representative = spin_representative;
+        factor = spin_factor;
+      };
 }
 
 -- the beam wheel number of a place
@@ -190,17 +222,12 @@ round_calls w =
     Arc 3 0 3 (w 0) ∷ Arc 3 1 3 (w 1) ∷
     Start 0 (w 0) ∷ []
 
--- The draft of these calls, of which one state of the least table is kernel, and no two are almost-equivalent: it is its own hyper table.
+-- the draft of these calls, of which one state of the least table is kernel
 abbrev pub round_draft : {W : Type 0} (K : Kind W) → (ℕ → W) → Table K.group.Mean → ℕ → Draft K
 round_draft K w least sink = record {
   room = room_for 4 2;
   calls = round_calls w;
-  least = least;
-  kernel = λ q. q == sink;
-  co_kernel = λ q. true;
-  hyper = least;
-  representative = λ q. q;
-  factor = λ q. K.group.one;
+  minimized = unmerged K.group least (λ q. q == sink);
 }
 
 -- On the wheel 360 and 360 are place 0: states 1 and 2 become one state of the least table.
@@ -221,6 +248,33 @@ beam_wheel_draft =
     ((0 ∷ 360 ∷ []) ∷ (0 ∷ 360 ∷ []) ∷ (0 ∷ 1080 ∷ []) ∷ (0 ∷ 1 ∷ []) ∷ []))
     3
 
+-- the ring of n states over one letter, each arc of which weighs 1
+abbrev pub ring_of : ℕ → Table (Place 720)
+ring_of n = ring_table wheel_kind (record { states = n; letters = 1; weight = wheel 1 })
+
+-- In the least table of the ring of 3 its weights gather on the arc from state 0: the pushes of states 1 and 2 are 2 and 1. All
+-- states are kernel.
+abbrev pub ring_minimized : Minimized wheel_kind.group
+ring_minimized =
+    unmerged wheel_kind.group
+    (written wheel_place 1 0 (true ∷ false ∷ false ∷ [])
+    ((1 ∷ []) ∷ (2 ∷ []) ∷ (0 ∷ []) ∷ [])
+    ((3 ∷ []) ∷ (0 ∷ []) ∷ (0 ∷ []) ∷ []))
+    (λ q. true)
+
+-- the rings of 2 and 3 side by side
+abbrev pub both_rings : Table (Place 720)
+both_rings = both_table wheel_kind.group (ring_of 2) (ring_of 3)
+
+-- They turn as one ring of 6, each arc of which weighs 2.
+abbrev pub both_minimized : Minimized wheel_kind.group
+both_minimized =
+    unmerged wheel_kind.group
+    (written wheel_place 1 0 (true ∷ false ∷ false ∷ false ∷ false ∷ false ∷ [])
+    ((1 ∷ []) ∷ (2 ∷ []) ∷ (3 ∷ []) ∷ (4 ∷ []) ∷ (5 ∷ []) ∷ (0 ∷ []) ∷ [])
+    ((12 ∷ []) ∷ (0 ∷ []) ∷ (0 ∷ []) ∷ (0 ∷ []) ∷ (0 ∷ []) ∷ (0 ∷ []) ∷ []))
+    (λ q. true)
+
 -- the draft file of the merging draft
 abbrev pub file : List ℕ
 file = flat_map (field_of check_codes.number) (fork_calls (λ c. c) 10)
@@ -233,32 +287,40 @@ text =
 
 pub record WorkedDrafts : Type 0 where
   pub new_book : Correct new_book_draft
-  pub new_book_counts : counts new_book_draft ≡ record { closed = 1; least = 1; hyper = 1; kernel = 1; agreement = 0 }
-  pub new_book_marks : marks new_book_draft ≡ 2 ∷ []
+  pub new_book_counts : draft_counts new_book_draft ≡ record { source = 1; least = 1; hyper = 1; kernel = 1; agreement = 0 }
+  pub new_book_marks : marks new_book_draft.minimized ≡ 2 ∷ []
   pub one_state : Correct one_state_draft
-  pub one_state_counts : counts one_state_draft ≡ record { closed = 2; least = 2; hyper = 1; kernel = 1; agreement = 2 }
-  pub one_state_marks : marks one_state_draft ≡ 1 ∷ 2 ∷ []
-  pub one_state_final : one_state_draft.hyper.final 0 ≡ false
-  pub one_state_weight : one_state_draft.hyper.start_weight ≡ residue_of 5
+  pub one_state_counts : draft_counts one_state_draft ≡ record { source = 2; least = 2; hyper = 1; kernel = 1; agreement = 2 }
+  pub one_state_marks : marks one_state_draft.minimized ≡ 1 ∷ 2 ∷ []
+  pub one_state_final : one_state_draft.minimized.hyper.final 0 ≡ false
+  pub one_state_weight : one_state_draft.minimized.hyper.start_weight ≡ residue_of 5
   pub merging : Correct merging_draft
-  pub merging_counts : counts merging_draft ≡ record { closed = 5; least = 4; hyper = 3; kernel = 1; agreement = 6 }
-  pub merging_marks : marks merging_draft ≡ 4 ∷ 4 ∷ 5 ∷ 7 ∷ []
-  pub merging_factor : merging_draft.factor 2 ≡ residue_of 5
+  pub merging_counts : draft_counts merging_draft ≡ record { source = 5; least = 4; hyper = 3; kernel = 1; agreement = 6 }
+  pub merging_marks : marks merging_draft.minimized ≡ 4 ∷ 4 ∷ 5 ∷ 7 ∷ []
+  pub merging_factor : merging_draft.minimized.factor 2 ≡ residue_of 5
   pub keeping : Correct keeping_draft
-  pub keeping_counts : counts keeping_draft ≡ record { closed = 5; least = 4; hyper = 4; kernel = 1; agreement = 6 }
-  pub keeping_marks : marks keeping_draft ≡ 4 ∷ 4 ∷ 5 ∷ 7 ∷ []
+  pub keeping_counts : draft_counts keeping_draft ≡ record { source = 5; least = 4; hyper = 4; kernel = 1; agreement = 6 }
+  pub keeping_marks : marks keeping_draft.minimized ≡ 4 ∷ 4 ∷ 5 ∷ 7 ∷ []
   pub spinning : Correct spinning_draft
-  pub spinning_counts : counts spinning_draft ≡ record { closed = 5; least = 4; hyper = 4; kernel = 4; agreement = 6 }
-  pub spinning_marks : marks spinning_draft ≡ 6 ∷ 7 ∷ 6 ∷ 7 ∷ []
+  pub spinning_counts : draft_counts spinning_draft ≡ record { source = 5; least = 4; hyper = 4; kernel = 4; agreement = 6 }
+  pub spinning_marks : marks spinning_draft.minimized ≡ 6 ∷ 7 ∷ 6 ∷ 7 ∷ []
   -- its states 2 and 3 are almost-equivalent to state 1, and are kept
-  pub spinning_two_one : AlmostEquivalent wheel_kind.group spinning_draft.least 2 1
-  pub spinning_three_one : AlmostEquivalent wheel_kind.group spinning_draft.least 3 1
+  pub spinning_two_one : AlmostEquivalent wheel_kind.group spinning_draft.minimized.least 2 1
+  pub spinning_three_one : AlmostEquivalent wheel_kind.group spinning_draft.minimized.least 3 1
   pub wheel : Correct wheel_draft
-  pub wheel_counts : counts wheel_draft ≡ record { closed = 5; least = 3; hyper = 3; kernel = 1; agreement = 4 }
-  pub wheel_marks : marks wheel_draft ≡ 5 ∷ 4 ∷ 7 ∷ []
+  pub wheel_counts : draft_counts wheel_draft ≡ record { source = 5; least = 3; hyper = 3; kernel = 1; agreement = 4 }
+  pub wheel_marks : marks wheel_draft.minimized ≡ 5 ∷ 4 ∷ 7 ∷ []
   pub beam_wheel : Correct beam_wheel_draft
-  pub beam_wheel_counts : counts beam_wheel_draft ≡ record { closed = 5; least = 4; hyper = 4; kernel = 1; agreement = 6 }
-  pub beam_wheel_marks : marks beam_wheel_draft ≡ 5 ∷ 4 ∷ 4 ∷ 7 ∷ []
+  pub beam_wheel_counts : draft_counts beam_wheel_draft ≡ record { source = 5; least = 4; hyper = 4; kernel = 1; agreement = 6 }
+  pub beam_wheel_marks : marks beam_wheel_draft.minimized ≡ 5 ∷ 4 ∷ 4 ∷ 7 ∷ []
+  pub ring_made : ring_verdict 3 1 ≡ None
+  pub ring : MinimizedTo wheel_kind.group (ring_of 3) ring_minimized
+  pub ring_counts : counts (ring_of 3) ring_minimized ≡ record { source = 3; least = 3; hyper = 3; kernel = 3; agreement = 4 }
+  pub ring_marks : marks ring_minimized ≡ 7 ∷ 6 ∷ 6 ∷ []
+  pub both_made : both_verdict (ring_of 2) (ring_of 3) ≡ None
+  pub both : MinimizedTo wheel_kind.group both_rings both_minimized
+  pub both_counts : counts both_rings both_minimized ≡ record { source = 6; least = 6; hyper = 6; kernel = 6; agreement = 10 }
+  pub both_marks : marks both_minimized ≡ 7 ∷ 6 ∷ 6 ∷ 6 ∷ 6 ∷ 6 ∷ []
   -- the file of the merging draft has 108 bytes and no fault, lists its calls, and is listed as the text
   pub file_size : length file ≡ 108
   pub file_whole : (listing check_codes file).fault ≡ None
@@ -266,6 +328,6 @@ pub record WorkedDrafts : Type 0 where
   pub listed : FileText file text
   -- In the merging draft the closed book and the hyper table agree on word 0 1, and not yet on word 1.
   pub word_0_1 : weight_of units_257 (source merging_draft) (0 ∷ 1 ∷ []) ≡ Some (residue_of 28)
-  pub word_0_1_hyper : weight_of units_257 merging_draft.hyper (0 ∷ 1 ∷ []) ≡ Some (residue_of 28)
+  pub word_0_1_hyper : weight_of units_257 merging_draft.minimized.hyper (0 ∷ 1 ∷ []) ≡ Some (residue_of 28)
   pub word_1 : weight_of units_257 (source merging_draft) (1 ∷ []) ≡ Some (residue_of 7)
-  pub word_1_hyper : weight_of units_257 merging_draft.hyper (1 ∷ []) ≡ None
+  pub word_1_hyper : weight_of units_257 merging_draft.minimized.hyper (1 ∷ []) ≡ None

@@ -4,6 +4,7 @@ use Rattle.weights.specs.Numbers.{chosen_path}
 use Rattle.theory.proofs.WorkedTables.{spin_keeps}
 use Rattle.worked.proofs.Forks.{merging_correct, keeping_correct}
 use Rattle.worked.proofs.Listed.{merging_listed}
+use Rattle.worked.proofs.Rings.{ring_correct, both_correct}
 use Rattle.worked.proofs.Round.{wheel_correct, beam_wheel_correct}
 use Rattle.worked.proofs.Small.{new_book_correct, one_state_correct}
 use Rattle.worked.proofs.Spin.{spinning_correct}
@@ -39,6 +40,14 @@ returns c =
       beam_wheel = beam_wheel_correct;
       beam_wheel_counts = refl;
       beam_wheel_marks = refl;
+      ring_made = refl;
+      ring = ring_correct;
+      ring_counts = refl;
+      ring_marks = refl;
+      both_made = refl;
+      both = both_correct;
+      both_counts = refl;
+      both_marks = refl;
       file_size = refl;
       file_whole = refl;
       file_calls = refl;
