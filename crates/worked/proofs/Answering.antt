@@ -10,7 +10,7 @@ use Rattle.theory.proofs.Minimal.{least_closed}
 use Rattle.theory.proofs.Determined.{least_is_determined}
 use Rattle.theory.proofs.Single.{hyper_is_determined}
 use Rattle.theory.proofs.Agreement.{hyper_agrees}
-use Rattle.worked.specs.Drafts.{Minimized, MinimizedTo}
+use Rattle.worked.specs.Minimized.{Minimized, MinimizedTo}
 use Rattle.worked.proofs.Sink.{holds_fast, sinks, sink_kernel, other_preamble}
 
 module _ (G : Group) (m : Minimized G) where

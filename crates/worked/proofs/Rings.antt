@@ -23,28 +23,38 @@ use Rattle.theory.proofs.Basics.{scaled_one, led_inside, multiple_accepts}
 use Rattle.theory.proofs.Determined.Canonical.{Canonical}
 use Rattle.theory.proofs.Search.{final_push, push_unique, live_not_dead}
 use Rattle.theory.proofs.Tests.{all_below, all_both, at_each, at_both, Coded, same, same_there}
-use Rattle.worked.specs.Drafts.{MinimizedTo, unmerged, wheel, ring_of, ring_minimized, both_rings, both_minimized}
+use Rattle.worked.specs.Minimized.{MinimizedTo, unmerged}
+use Rattle.worked.specs.Drafts.{wheel, ring_of, ring_minimized, both_rings, both_minimized}
 use Rattle.worked.proofs.Answering.{all_kernel, all_co_kernel, minimized}
 use Rattle.worked.proofs.Own.{own_least, own_hyper}
 use Rattle.worked.proofs.Quotient.{Quotient, QuotientTests, tested_quotient, quotient_least, coded}
 
--- the state after q, and then l letters more, is where q and l + 1 letters lead
+-- The state after q, and then l letters more, is where q and l + 1 letters lead.
 next_round : (n q l : ℕ) → q < n → (next n q + l) % n ≡ (q + suc l) % n
 next_round n q l inside = grind (arith, nat_tests, add-mod_left)
 
--- a number of letters that leads round from states q and p to state 0 tells them equal
-one_distance : (n m q p : ℕ) → q < n → p < n → (p + (m * n + (n - q) + 0)) % n ≡ 0 → q ≡ p
-one_distance n m q p l k e =
+-- how many letters lead from state q of n round m times, on to state 0, and on to state p
+abbrev far : ℕ → ℕ → ℕ → ℕ → ℕ
+far n m q p = m * n + (n - q) + p
+
+far_there : (n m q p : ℕ) → q < n → p < n → (q + far n m q p) % n ≡ p
+far_there n m q p l k =
+    let round : q + far n m q p ≡ suc m * n + p = omega arith in
+    ap (λ d. d % n) round ∙ mod-mul-add (suc m) n p k
+
+-- those that lead from q to state 0 lead from no other state there
+far_apart : (n m q p : ℕ) → q < n → p < n → (p + far n m q 0) % n ≡ 0 → q ≡ p
+far_apart n m q p l k e =
     elim (cases_lt p q) [
       | inl less ↦
-          (let past : p + (m * n + (n - q) + 0) ≡ m * n + (n - q + p) = omega arith in
-          absurd (omega (arith, sym (ap (λ d. d % n) past) ∙ e, mod-mul-add m n (n - q + p) (omega arith))))
+          (let short : p + far n m q 0 ≡ m * n + (n - q + p) = omega arith in
+          absurd (omega (arith, sym (ap (λ d. d % n) short) ∙ e, mod-mul-add m n (n - q + p) (omega arith))))
       | inr more ↦
-          (let past : p + (m * n + (n - q) + 0) ≡ suc m * n + (p - q) = omega arith in
+          (let past : p + far n m q 0 ≡ suc m * n + (p - q) = omega arith in
           omega (arith, sym (ap (λ d. d % n) past) ∙ e, mod-mul-add (suc m) n (p - q) (omega arith)))
     ]
 
--- the words of letter 0 alone: no word comes before them
+-- words of letter 0 alone, which no word comes before
 zeros_word : (s n : ℕ) → 0 < s → Word s (replicate n 0)
 zeros_word s zero some = tt
 zeros_word s (suc n) some = (some, zeros_word s n some)
@@ -89,21 +99,22 @@ module _ (G : Group) (t : Table G.Mean) (x : Gathered G t) where
   accepted_at q w l h a =
       sym (led_on q w l h) ∙ eqb-true _ _ (sym (x.final (led t q w) (led_inside t closed q w l h)) ∙ a)
 
-  -- the word that leads from state q round m times, on to state 0, and on to state p
+  -- the word of letter 0 that leads from state q round m times, on to state 0, and on to state p
   abbrev turns : ℕ → ℕ → ℕ → List ℕ
-  turns m q p = replicate (m * n + (n - q) + p) 0
+  turns m q p = replicate (far n m q p) 0
+
+  turns_count : (m q p : ℕ) → length (turns m q p) ≡ far n m q p
+  turns_count m q p = length-replicate (far n m q p) 0
 
   turns_word : (m q p : ℕ) → Word t.letters (turns m q p)
-  turns_word m q p = zeros_word t.letters (m * n + (n - q) + p) x.some_letter
+  turns_word m q p = zeros_word t.letters (far n m q p) x.some_letter
 
   turns_long : (m q p : ℕ) → m ≤ length (turns m q p)
-  turns_long m q p =
-      omega (arith, length-replicate {A = ℕ} (m * n + (n - q) + p) 0, mul-le-mul_left m x.some_state)
+  turns_long m q p = omega (arith, turns_count m q p, mul-le-mul_left m x.some_state)
 
   turns_there : (m q p : ℕ) → q < n → p < n → led t q (turns m q p) ≡ p
   turns_there m q p l k =
-      let round : q + length (turns m q p) ≡ suc m * n + p = omega (arith, length-replicate {A = ℕ} (m * n + (n - q) + p) 0) in
-      led_on q (turns m q p) l (turns_word m q p) ∙ ap (λ d. d % n) round ∙ mod-mul-add (suc m) n p k
+      led_on q (turns m q p) l (turns_word m q p) ∙ ap (λ d. (q + d) % n) (turns_count m q p) ∙ far_there n m q p l k
 
   accepted : (m q : ℕ) → q < n → accepts t q (turns m q 0) ≡ true
   accepted m q l = ap t.final (turns_there m q 0 l x.some_state) ∙ x.final 0 x.some_state
@@ -131,9 +142,8 @@ module _ (G : Group) (t : Table G.Mean) (x : Gathered G t) where
       let w = turns m q 0 in
       let h = turns_word m q 0 in
       let alike = multiple_accepts G t t q p e.by.multiple w h (turns_long m q 0) in
-      one_distance n m q p l k
-      (ap (λ d. (p + d) % n) (sym (length-replicate {A = ℕ} (m * n + (n - q) + 0) 0))
-      ∙ accepted_at p w k h (sym alike ∙ accepted m q l))
+      far_apart n m q p l k
+      (ap (λ d. (p + d) % n) (sym (turns_count m q 0)) ∙ accepted_at p w k h (sym alike ∙ accepted m q l))
 
   apart : (q p : ℕ) → q < n → p < n → Equivalent G t q p → q ≡ p
   apart q p l k e =
@@ -170,12 +180,12 @@ module _ (G : Group) (t : Table G.Mean) (x : Gathered G t) where
                   λ v h a smaller.
                   elim smaller [
                     | inl shorter ↦
-                        (let short : suc q + length v < n = omega (arith, length-replicate {A = ℕ} (0 * n + (n - suc q) + 0) 0) in
+                        (let short : suc q + length v < n = omega (arith, turns_count 0 (suc q) 0) in
                         omega (arith, mod-eq_of_lt short, accepted_at (suc q) v l h a))
-                    | inr earlier ↦ none_earlier (0 * n + (n - suc q) + 0) v earlier.1
+                    | inr earlier ↦ none_earlier (far n 0 (suc q) 0) v earlier.1
                   ];
             };
-        weighs = weighs_back (suc q) (0 * n + (n - suc q) + 0) (omega arith) l (omega arith);
+        weighs = weighs_back (suc q) (far n 0 (suc q) 0) (omega arith) l (omega arith);
       })
 
   -- states are met in their order
@@ -215,7 +225,8 @@ module _ (G : Group) (t : Table G.Mean) (x : Gathered G t) where
       (all_kernel G m (λ q. refl) kernel) (all_co_kernel G m (λ q. refl) co_kernel) (own_hyper G t kernel almost_apart)
 
 -- the same, by tests
-record GatheredTests (G : Group) (c : Coded G) (t : Table G.Mean) : Type 0 where
+record RingTests (G : Group) (c : Coded G) (s t : Table G.Mean) (k : ℕ) (class : ℕ → ℕ) (factor : ℕ → G.Mean) : Type 0 where
+  onto : QuotientTests G c s t k class factor
   some_state : 0 < t.states
   some_letter : 0 < t.letters
   start : t.start ≡ 0
@@ -223,62 +234,56 @@ record GatheredTests (G : Group) (c : Coded G) (t : Table G.Mean) : Type 0 where
   target : all_both (λ q a. eqb (t.target q a) (next t.states q)) t.states t.letters ≡ true
   weight : all_both (λ q a. eqb q 0 || same G c (t.weight q a) G.one) t.states t.letters ≡ true
 
-tested_gathered : (G : Group) (c : Coded G) (t : Table G.Mean) → GatheredTests G c t → Gathered G t
-tested_gathered G c t x =
-    record {
+tested_ring :
+    (G : Group) (c : Coded G) (s t : Table G.Mean) (k : ℕ) (class : ℕ → ℕ) (factor : ℕ → G.Mean) → Lawful s →
+    RingTests G c s t k class factor → MinimizedTo G s (unmerged G t (λ q. true))
+tested_ring G c s t k class factor lawful x =
+    gathered G t
+    (record {
       some_state = x.some_state;
       some_letter = x.some_letter;
       start = x.start;
       final = λ q l. (booleans_Decides (t.final q) (eqb q 0)).0 (at_each _ _ x.final q l);
-      target = λ q a l k. eqb-true _ _ (at_both _ _ _ x.target q a l k);
+      target = λ q a l m. eqb-true _ _ (at_both _ _ _ x.target q a l m);
       weight =
-          λ q a some l k.
-          elim (or_cases (eqb q 0) (same G c (t.weight q a) G.one) (at_both _ _ _ x.weight q a l k)) [
+          λ q a some l m.
+          elim (or_cases (eqb q 0) (same G c (t.weight q a) G.one) (at_both _ _ _ x.weight q a l m)) [
             | inl first ↦ absurd (omega (arith, eqb-true q 0 first))
             | inr one ↦ same_there G c _ _ one
           ];
-    }
+    })
+    s k class factor lawful (tested_quotient G c s t k class factor x.onto)
+
+ring_of_lawful : (n : ℕ) → Lawful (ring_of n)
+ring_of_lawful n = ring_lawful wheel_kind (record { states = n; letters = 1; weight = wheel 1 })
 
 -- the factor of a state is its push
 ring_factor : ℕ → Place 720
 ring_factor q = wheel_place (get_or (0 ∷ 2 ∷ 1 ∷ []) q 0)
 
-ring_gathered : GatheredTests wheel_kind.group (coded 720 (lit< tt)) ring_minimized.least
-unfolding all_below all_both same
-ring_gathered = search rules
-
-ring_onto : QuotientTests wheel_kind.group (coded 720 (lit< tt)) (ring_of 3) ring_minimized.least 3 (λ q. q) ring_factor
+ring_tests :
+    RingTests wheel_kind.group (coded 720 (lit< tt)) (ring_of 3) ring_minimized.least 3 (λ q. q) ring_factor
 unfolding all_below all_both same ring_factor
-ring_onto = search rules
-
-ring_of_lawful : (n : ℕ) → Lawful (ring_of n)
-ring_of_lawful n = ring_lawful wheel_kind (record { states = n; letters = 1; weight = wheel 1 })
+ring_tests = search rules
 
 pub ring_correct : MinimizedTo wheel_kind.group (ring_of 3) ring_minimized
 ring_correct =
-    let l = ring_minimized.least in
-    gathered wheel_kind.group l (tested_gathered wheel_kind.group (coded 720 (lit< tt)) l ring_gathered) (ring_of 3) 3 (λ q. q) ring_factor
-    (ring_of_lawful 3)
-    (tested_quotient wheel_kind.group (coded 720 (lit< tt)) (ring_of 3) l 3 (λ q. q) ring_factor ring_onto)
+    tested_ring wheel_kind.group (coded 720 (lit< tt)) (ring_of 3) ring_minimized.least 3 (λ q. q) ring_factor (ring_of_lawful 3)
+    ring_tests
 
--- state 3 q1 + q2 of the rings side by side is reached by as many letters as are q1 modulo 2 and q2 modulo 3
+-- As many letters lead to state 3 q1 + q2 of the rings side by side as are q1 modulo 2 and q2 modulo 3.
 both_class : ℕ → ℕ
 both_class q = get_or (0 ∷ 4 ∷ 2 ∷ 3 ∷ 1 ∷ 5 ∷ []) q 0
 
 both_factor : ℕ → Place 720
 both_factor q = wheel_place (get_or (0 ∷ 4 ∷ 8 ∷ 6 ∷ 10 ∷ 2 ∷ []) q 0)
 
-both_gathered : GatheredTests wheel_kind.group (coded 720 (lit< tt)) both_minimized.least
-unfolding all_below all_both same
-both_gathered = search rules
-
-both_onto : QuotientTests wheel_kind.group (coded 720 (lit< tt)) both_rings both_minimized.least 6 both_class both_factor
+both_tests :
+    RingTests wheel_kind.group (coded 720 (lit< tt)) both_rings both_minimized.least 6 both_class both_factor
 unfolding all_below all_both same both_class both_factor
-both_onto = search rules
+both_tests = search rules
 
 pub both_correct : MinimizedTo wheel_kind.group both_rings both_minimized
 both_correct =
-    let l = both_minimized.least in
-    gathered wheel_kind.group l (tested_gathered wheel_kind.group (coded 720 (lit< tt)) l both_gathered) both_rings 6 both_class both_factor
-    (both_lawful wheel_kind.group (ring_of 2) (ring_of 3) (ring_of_lawful 2) (ring_of_lawful 3))
-    (tested_quotient wheel_kind.group (coded 720 (lit< tt)) both_rings l 6 both_class both_factor both_onto)
+    tested_ring wheel_kind.group (coded 720 (lit< tt)) both_rings both_minimized.least 6 both_class both_factor
+    (both_lawful wheel_kind.group (ring_of 2) (ring_of 3) (ring_of_lawful 2) (ring_of_lawful 3)) both_tests

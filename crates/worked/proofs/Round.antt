@@ -8,7 +8,8 @@ use Rattle.theory.specs.Least.{Least}
 use Rattle.theory.proofs.Tests.{all_below, any_below, all_both, is_word, is_closed, closed_there, Coded, same, ratio}
 use Rattle.theory.proofs.LeastTests.{is_first, is_met, differ, LeastTests, tested_least}
 use Rattle.theory.proofs.HyperTests.{goes_round, settles, diverge, Witnesses, HyperTests, tested_hyper, all_co_kernel, marked_kernel, other_preamble}
-use Rattle.worked.specs.Drafts.{Minimized, Draft, Correct, source, wheel_draft, beam_wheel_draft}
+use Rattle.worked.specs.Minimized.{Minimized}
+use Rattle.worked.specs.Drafts.{Draft, Correct, source, wheel_draft, beam_wheel_draft}
 use Rattle.worked.proofs.Answering.{all_co_kernel as marked_co_kernel, minimized}
 use Rattle.worked.proofs.Quotient.{QuotientTests, tested_quotient, quotient_least, coded}
 

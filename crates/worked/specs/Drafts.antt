@@ -1,9 +1,9 @@
 -- Worked drafts: tables that calls draw and tables of other sources, each with its least and its hyper table. Assumes nothing.
-use Rattle.std.specs.Prelude.{◌≡◌, ℕ, ◌+◌, ◌-◌, ◌*◌, ◌%◌, ◌<◌, Bool, true, false, ◌==◌, List, [], ◌∷◌, ◌++◌, length, map, Some, None, Ok, codes}
-use Rattle.std.specs.List.{flat_map, range_with_len}
+use Rattle.std.specs.Prelude.{◌≡◌, ℕ, ◌+◌, ◌*◌, ◌%◌, true, false, ◌==◌, List, [], ◌∷◌, ◌++◌, length, map, Some, None, Ok, codes}
+use Rattle.std.specs.List.{flat_map}
 use Rattle.weights.specs.Check.{Residue, residue_of, units_257, check_kind}
 use Rattle.weights.specs.Codes.{check_codes}
-use Rattle.weights.specs.Group.{Group, Kind}
+use Rattle.weights.specs.Group.{Kind}
 use Rattle.weights.specs.Wheel.{Place, wheel_kind, wheel_place, beam_wheel_kind, beam_wheel_place}
 use Rattle.weights.specs.declared.check.Check.{Check}
 use Rattle.weights.specs.declared.wheel.Wheel.{Wheel}
@@ -16,73 +16,10 @@ use Rattle.sources.specs.Ring.{ring_verdict, ring_table}
 use Rattle.sources.specs.Both.{both_verdict, both_table}
 use Rattle.drafts.specs.Draft.{listing}
 use Rattle.drafts.specs.Written.{field_of}
-use Rattle.theory.specs.Series.{AlmostEquivalent, WeighAlikeFrom}
-use Rattle.theory.specs.Least.{Least}
-use Rattle.theory.specs.Kernel.{Kernel, Preamble, CoKernel, CoPreamble}
-use Rattle.theory.specs.Hyper.{Hyper, count_below}
-use Rattle.theory.specs.Theorems.{SameTable, SameHyper}
-use Rattle.minimize.specs.Compile.{mark_of}
+use Rattle.theory.specs.Series.{AlmostEquivalent}
 use Rattle.listings.specs.File.{FileText}
+use Rattle.worked.specs.Minimized.{Minimized, Counts, counts, marks, MinimizedTo, unmerged}
 use Rattle.theory.specs.Examples.{written, fork_least, fork_hyper, fork_representative, fork_factor, spin, spin_representative, spin_factor}
-
--- what a table is minimized to: its least table, which of the states of that are kernel and which co-kernel, and the hyper table
--- with its representatives and factors
-pub record Minimized (G : Group) : Type 0 where
-  pub least : Table G.Mean
-  pub kernel : ℕ → Bool
-  pub co_kernel : ℕ → Bool
-  pub hyper : Table G.Mean
-  pub representative : ℕ → ℕ
-  pub factor : ℕ → G.Mean
-
--- How many states a table, its least and its hyper table have, and how many of the least table's are kernel. Words of the agreement
--- length or more weigh alike in the table and its hyper table.
-pub record Counts : Type 0 where
-  pub source : ℕ
-  pub least : ℕ
-  pub hyper : ℕ
-  pub kernel : ℕ
-  pub agreement : ℕ
-
-abbrev pub counts : {G : Group} → Table G.Mean → Minimized G → Counts
-counts t m =
-    record {
-      source = t.states;
-      least = m.least.states;
-      hyper = m.hyper.states;
-      kernel = count_below m.kernel m.least.states;
-      agreement = 2 * m.least.states - 2;
-    }
-
--- the marks of the states of the least table, in order
-abbrev pub marks : {G : Group} → Minimized G → List ℕ
-marks m = map (λ q. mark_of (m.least.final q) (m.kernel q) (m.co_kernel q)) (range_with_len 0 m.least.states)
-
--- table t is minimized to m, and to no other tables
-pub record MinimizedTo (G : Group) (t : Table G.Mean) (m : Minimized G) : Type 0 where
-  pub least : Least G t m.least
-  pub only_least : (l : Table G.Mean) → Least G t l → SameTable G m.least l
-  pub kernel : (q : ℕ) → q < m.least.states → m.kernel q ≡ true → Kernel m.least q
-  pub preamble : (q : ℕ) → q < m.least.states → m.kernel q ≡ false → Preamble m.least q
-  pub co_kernel : (q : ℕ) → q < m.least.states → m.co_kernel q ≡ true → CoKernel m.least q
-  pub co_preamble : (q : ℕ) → q < m.least.states → m.co_kernel q ≡ false → CoPreamble m.least q
-  pub hyper : Hyper G m.least m.hyper m.representative m.factor
-  pub only_hyper :
-      (h : Table G.Mean) (r : ℕ → ℕ) (f : ℕ → G.Mean) → Hyper G m.least h r f →
-      SameHyper G m.least m.hyper h m.representative r m.factor f
-  pub agree : WeighAlikeFrom G (counts t m).agreement t m.hyper
-
--- a least table of co-kernel states, no two of them almost-equivalent, which is its own hyper table
-abbrev pub unmerged : (G : Group) → Table G.Mean → (ℕ → Bool) → Minimized G
-unmerged G least kernel =
-    record {
-      least = least;
-      kernel = kernel;
-      co_kernel = λ q. true;
-      hyper = least;
-      representative = λ q. q;
-      factor = λ q. G.one;
-    }
 
 -- a draft: the calls on a new book over so much memory, and what the table of the closed book is minimized to
 pub record Draft {W : Type 0} (K : Kind W) : Type 0 where
@@ -248,7 +185,7 @@ beam_wheel_draft =
     ((0 ∷ 360 ∷ []) ∷ (0 ∷ 360 ∷ []) ∷ (0 ∷ 1080 ∷ []) ∷ (0 ∷ 1 ∷ []) ∷ []))
     3
 
--- the ring of n states over one letter, each arc of which weighs 1
+-- the ring of n states over one letter, whose arcs each weigh 1
 abbrev pub ring_of : ℕ → Table (Place 720)
 ring_of n = ring_table wheel_kind (record { states = n; letters = 1; weight = wheel 1 })
 
@@ -266,7 +203,7 @@ ring_minimized =
 abbrev pub both_rings : Table (Place 720)
 both_rings = both_table wheel_kind.group (ring_of 2) (ring_of 3)
 
--- They turn as one ring of 6, each arc of which weighs 2.
+-- They turn as one ring of 6, whose arcs each weigh 2.
 abbrev pub both_minimized : Minimized wheel_kind.group
 both_minimized =
     unmerged wheel_kind.group
@@ -313,6 +250,7 @@ pub record WorkedDrafts : Type 0 where
   pub beam_wheel : Correct beam_wheel_draft
   pub beam_wheel_counts : draft_counts beam_wheel_draft ≡ record { source = 5; least = 4; hyper = 4; kernel = 1; agreement = 6 }
   pub beam_wheel_marks : marks beam_wheel_draft.minimized ≡ 5 ∷ 4 ∷ 4 ∷ 7 ∷ []
+  -- the makings of the ring of 3, and of the rings of 2 and 3 side by side, refuse nothing
   pub ring_made : ring_verdict 3 1 ≡ None
   pub ring : MinimizedTo wheel_kind.group (ring_of 3) ring_minimized
   pub ring_counts : counts (ring_of 3) ring_minimized ≡ record { source = 3; least = 3; hyper = 3; kernel = 3; agreement = 4 }

@@ -1,1 +1,2 @@
+pub mod Minimized
 pub mod Drafts

@@ -1,6 +1,6 @@
 #![tactic(auto)]
 
-// Worked drafts, from the calls that draw a book to the hyper table.
+// Worked drafts, from the calls that draw a book, or from another source, to the hyper table.
 mod drafts_proved;
 
 pub use drafts_proved::worked_drafts;
