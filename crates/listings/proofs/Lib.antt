@@ -1,6 +1,5 @@
 pub mod Digits
 pub mod FileTexts
-pub mod HyperAlike
 pub mod Lines
 pub mod OneText
 pub mod Putting

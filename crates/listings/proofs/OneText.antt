@@ -32,7 +32,7 @@ use Rattle.listings.specs.File.{book_lengths, HyperText, SketchText, KindText, T
 use Rattle.listings.specs.Listing.{start_line, state_line, arc_line, start_text, states_text, arc_text, arcs_text, counts_text, listing_text}
 use Rattle.listings.specs.Places.{BookPlaces}
 use Rattle.listings.proofs.FileTexts.{read}
-use Rattle.listings.proofs.HyperAlike.{same_turned, hyper_of_same}
+use Rattle.theory.proofs.HyperAlike.{same_turned, hyper_of_same}
 use Rattle.listings.proofs.Lines.{range_more}
 
 -- lines that are alike one by one

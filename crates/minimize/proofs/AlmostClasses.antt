@@ -1,6 +1,6 @@
 -- Rounds that gather almost-equivalent states: what is gathered is almost-equivalent, and where a round gathers no more, all that is
 -- almost-equivalent is gathered. Assumes nothing.
-use Rattle.std.proofs.Common.{◌≡◌, ◌≢◌, ℕ, zero, suc, ◌+◌, ◌-◌, ◌<◌, ◌≤◌, Bool, true, false, cond, List, [], ◌∷◌, length, None, inl, inr, sym, refl, ap, ◌∙◌, subst, arith}
+use Rattle.std.proofs.Common.{◌≡◌, ◌≢◌, ℕ, zero, suc, ◌+◌, ◌<◌, ◌≤◌, Bool, true, false, cond, List, [], ◌∷◌, length, None, inl, inr, sym, refl, ap, ◌∙◌, subst, arith}
 use Rattle.std.proofs.lemmas.Bool.{cases_Bool, cases_eq, eqb-true, eq-eqb, both_ways, cond-true, false_from_ne_true}
 use Rattle.weights.specs.Codes.{within}
 use Rattle.weights.specs.Group.{Group}
@@ -11,7 +11,8 @@ use Rattle.theory.specs.Runs.{Closed, accepts}
 use Rattle.theory.specs.Series.{Multiple, Equivalent, AlmostBy, AlmostEquivalent}
 use Rattle.theory.specs.Kernel.{CoKernel, CoPreamble}
 use Rattle.theory.specs.Hyper.{count_below}
-use Rattle.theory.proofs.Basics.{inv_cancels, cancels_inv, walked, weight_walked, multiple_sym, multiple_trans, multiple_later, multiple_after, multiple_accepts, almost_by_itself, almost_sym}
+use Rattle.theory.proofs.Lengths.{all_shorter, some_longer, infinitely_many}
+use Rattle.theory.proofs.Basics.{inv_cancels, cancels_inv, walked, weight_walked, multiple_later, multiple_after, multiple_accepts, almost_multiple, multiple_from, almost_by_itself, almost_by_sym, almost_by_trans, almost_by_next, almost_sym}
 use Rattle.theory.proofs.Search.{co_kernel_not_preamble}
 use Rattle.theory.proofs.Single.{one_almost}
 use Rattle.minimize.proofs.Keeping.{kept_fewer, kept_stands}
@@ -55,32 +56,18 @@ module _ (G : Group) where
       ∙ ap (λ z. G.mul k (G.mul z y)) (one_right G v)
 
 module _ (G : Group) (t : Table G.Mean) where
-  almost_by_sym : (k : G.Mean) (q p : ℕ) → AlmostBy G t k q p → AlmostBy G t (G.inv k) p q
-  almost_by_sym k q p x = record { from = x.from; multiple = multiple_sym x.multiple }
-
-  almost_by_trans : (k m : G.Mean) (q p r : ℕ) → AlmostBy G t k q p → AlmostBy G t m p r → AlmostBy G t (G.mul k m) q r
-  almost_by_trans k m q p r x y =
-      record {
-        from = x.from + y.from;
-        multiple = multiple_trans (multiple_later (omega arith) x.multiple) (multiple_later (omega arith) y.multiple);
-      }
-
-  -- a letter takes both along
-  almost_by_next :
-      (k : G.Mean) (q p a : ℕ) → a < t.letters → AlmostBy G t k q p →
-      AlmostBy G t (G.mul (G.inv (walked G t q (a ∷ []))) (G.mul k (walked G t p (a ∷ [])))) (t.target q a) (t.target p a)
-  almost_by_next k q p a l x = record { from = x.from - 1; multiple = multiple_after G t t q p (a ∷ []) (l, tt) x.multiple }
-
   not_accepted : (q : ℕ) (w : List ℕ) → accepts t q w ≡ false → weight_from G t q w ≡ None
   not_accepted q w e = weight_walked G t q w ∙ ap (λ b. within b (walked G t q w)) e
 
   co_kernel_alike : (q p : ℕ) → AlmostEquivalent G t q p → CoKernel t q → CoKernel t p
   co_kernel_alike q p e c =
+      let x = multiple_from e.by in
       record {
         words =
-            λ n.
-            let z = c.words (n + e.by.from) in
-            (z.0, z.1, omega (arith, z.2), sym (multiple_accepts G t t q p e.by.multiple z.0 z.1 (omega (arith, z.2))) ∙ z.3);
+            infinitely_many
+            (λ n.
+            let z = some_longer c.words (n + x.from) in
+            (z.0, z.1, omega (arith, z.2), sym (multiple_accepts G t t q p x.multiple z.0 z.1 (omega (arith, z.2))) ∙ z.3));
       }
 
   -- an arc's weight towards a state that both targets are multiples of
@@ -90,7 +77,8 @@ module _ (G : Group) (t : Table G.Mean) where
   next_weighs k x y q p a r l c h i j =
       let z = G.mul (G.inv (walked G t q (a ∷ []))) (G.mul k (walked G t p (a ∷ []))) in
       factor_moved G (t.weight q a) (t.weight p a) k x y
-      (one_almost G t (t.target q a) r x (G.mul z y) c i (almost_by_trans z y (t.target q a) (t.target p a) r (almost_by_next k q p a l h) j))
+      (one_almost G t (t.target q a) r x (G.mul z y) c i
+      (almost_by_trans G t z y (t.target q a) (t.target p a) r (almost_by_next G t k q p a l h) j))
 
 -- all are kept
 kept_all : (f : ℕ → Bool) (n : ℕ) → ((q : ℕ) → q < n → f q ≡ true) → count_below f n ≡ n
@@ -226,7 +214,7 @@ module _ (G : Group) (t : Table G.Mean) (o : ℕ → Bool) (closed : Closed t) (
           Letter (G.mul (base G t o factor q t.letters) (G.inv (base G t o factor p t.letters))) q p a
       row_letter q p a l m i row =
           elim (cases_Bool (o (t.target q a))) [
-            | inl on ↦ (let x = s.almost q' l' in let y = s.almost p' m' in
+            | inl on ↦ (let x = multiple_from (s.almost q' l') in let y = multiple_from (s.almost p' m') in
                 record {
                   from = x.from + y.from;
                   words =
@@ -242,14 +230,14 @@ module _ (G : Group) (t : Table G.Mean) (o : ℕ → Bool) (closed : Closed t) (
                       ∙ ap (scaled G (t.weight p a)) (sym (y.multiple.words w h (omega arith))));
                 })
             | inr off ↦
-                (let x = is_co_preamble q' l' off in
-                let y = is_co_preamble p' m' (sym (marks_same q p a l m i row) ∙ off) in
+                (let x = all_shorter (is_co_preamble q' l' off).words in
+                let y = all_shorter (is_co_preamble p' m' (sym (marks_same q p a l m i row) ∙ off)).words in
                 record {
-                  from = x.words.0 + y.words.0;
+                  from = x.0 + y.0;
                   words =
                       λ w h n.
-                      ap (scaled G (t.weight q a)) (none_from q' x w h (omega arith))
-                      ∙ sym (ap (λ z. scaled G k (scaled G (t.weight p a) z)) (none_from p' y w h (omega arith)));
+                      ap (scaled G (t.weight q a)) (none_from q' x.0 x.1 w h (omega arith))
+                      ∙ sym (ap (λ z. scaled G k (scaled G (t.weight p a) z)) (none_from p' y.0 y.1 w h (omega arith)));
                 })
           ]
         where
@@ -268,9 +256,11 @@ module _ (G : Group) (t : Table G.Mean) (o : ℕ → Bool) (closed : Closed t) (
           k : G.Mean
           k = G.mul (base G t o factor q t.letters) (G.inv (base G t o factor p t.letters))
 
-          none_from : (r : ℕ) (c : CoPreamble t r) (w : List ℕ) → Word t.letters w → c.words.0 ≤ length w → weight_from G t r w ≡ None
-          none_from r c w h n =
-              not_accepted G t r w (false_from_ne_true (accepts t r w) (λ e. omega (arith, c.words.1 w h e)))
+          none_from :
+              (r n : ℕ) → ((w : List ℕ) → Word t.letters w → accepts t r w ≡ true → length w < n) → (w : List ℕ) →
+              Word t.letters w → n ≤ length w → weight_from G t r w ≡ None
+          none_from r n short w h long =
+              not_accepted G t r w (false_from_ne_true (accepts t r w) (λ e. omega (arith, short w h e)))
 
           weights : o q' ≡ true → weighed G t factor q a ≡ G.mul k (weighed G t factor p a)
           weights on =
@@ -312,7 +302,7 @@ module _ (G : Group) (t : Table G.Mean) (o : ℕ → Bool) (closed : Closed t) (
       row_almost q p l m row =
           let k = G.mul (base G t o factor q t.letters) (G.inv (base G t o factor p t.letters)) in
           let all = all_letters k q p t.letters (λ a i. row_letter q p a l m i row) in
-          record { from = suc all.from; multiple = record { words = λ w h n. words k all w h n } }
+          almost_multiple {n = suc all.from} (record { words = λ w h n. words k all w h n })
         where
           words :
               (k : G.Mean) (all : Letters k q p t.letters) (w : List ℕ) → Word t.letters w → suc all.from ≤ length w →
@@ -409,7 +399,7 @@ module _ (G : Group) (t : Table G.Mean) (o : ℕ → Bool) (closed : Closed t) (
         gathered zero q p k i j h = ap label' (apart q p i j (record { factor = k; by = h }))
         gathered (suc n) q p k i j h =
             r.one_first q p i j
-            (one_row label factor s q p k i j (record { from = suc n; multiple = h })
+            (one_row label factor s q p k i j (almost_multiple h)
             (λ a l on.
             let i' = closed.target_inside q a i l in
             let j' = closed.target_inside p a j l in
@@ -423,7 +413,7 @@ module _ (G : Group) (t : Table G.Mean) (o : ℕ → Bool) (closed : Closed t) (
             record {
               inside = inside;
               almost = regrouped_settled.almost;
-              one_class = λ q p i j e. gathered e.by.from q p e.factor i j e.by.multiple;
+              one_class = λ q p i j e. let x = multiple_from e.by in gathered x.from q p e.factor i j x.multiple;
             }
 
 -- so many labels there are to begin with

@@ -10,7 +10,8 @@ use Rattle.theory.specs.Runs.{accepts}
 use Rattle.theory.specs.Series.{AlmostBy, AlmostEquivalent}
 use Rattle.theory.specs.Kernel.{Kernel, Preamble, CoKernel, CoPreamble}
 use Rattle.theory.specs.Hyper.{Representative, Factor}
-use Rattle.theory.proofs.Basics.{multiple_sym, multiple_trans, multiple_later, multiple_accepts, walked, weight_walked}
+use Rattle.theory.proofs.Lengths.{all_shorter}
+use Rattle.theory.proofs.Basics.{multiple_accepts, almost_multiple, multiple_from, almost_by_sym, almost_by_trans, walked, weight_walked}
 use Rattle.theory.proofs.Search.{co_kernel_not_preamble}
 use Rattle.minimize.specs.Compile.{Tells}
 use Rattle.minimize.specs.Steps.{Marked, AlmostClasses, has_mark}
@@ -32,11 +33,7 @@ module _ (G : Group) (t : Table G.Mean) (k o : ℕ → Bool) (label : ℕ → �
   one_label c q r i j e =
       let d = c.almost q i in
       let x = subst (λ p. AlmostBy G t (factor r) r p) e (c.almost r j) in
-      record {
-        from = d.from + x.from;
-        multiple =
-            multiple_trans (multiple_later (omega arith) d.multiple) (multiple_sym (multiple_later (omega arith) x.multiple));
-      }
+      almost_by_trans G t (factor q) (G.inv (factor r)) q (label q) r d (almost_by_sym G t (factor r) r (label q) x)
 
   not_accepted : (q : ℕ) (w : List ℕ) → accepts t q w ≡ false → weight_from G t q w ≡ None
   not_accepted q w e = weight_walked G t q w ∙ ap (λ b. within b (walked G t q w)) e
@@ -44,18 +41,17 @@ module _ (G : Group) (t : Table G.Mean) (k o : ℕ → Bool) (label : ℕ → �
   -- where finitely many words are accepted from q, any factor serves
   any_factor : (q r : ℕ) (x y : G.Mean) → CoPreamble t q → AlmostBy G t x q r → AlmostBy G t y q r
   any_factor q r x y c a =
-      record {
-        from = c.words.0 + a.from;
-        multiple =
-            record {
-              words =
-                  λ w h l.
-                  let no : accepts t q w ≡ false =
-                  false_from_ne_true (accepts t q w) (λ e. omega (arith, c.words.1 w h e)) in
-                  let both : accepts t q w ≡ accepts t r w = multiple_accepts G t t q r a.multiple w h (omega arith) in
-                  not_accepted q w no ∙ sym (ap (scaled G y) (not_accepted r w (sym both ∙ no)));
-            };
-      }
+      let short = all_shorter c.words in
+      let m = multiple_from a in
+      almost_multiple {n = short.0 + m.from}
+      (record {
+        words =
+            λ w h l.
+            let no : accepts t q w ≡ false =
+            false_from_ne_true (accepts t q w) (λ e. omega (arith, short.1 w h e)) in
+            let both : accepts t q w ≡ accepts t r w = multiple_accepts G t t q r m.multiple w h (omega arith) in
+            not_accepted q w no ∙ sym (ap (scaled G y) (not_accepted r w (sym both ∙ no)));
+      })
 
   pub factor_chosen :
       Marked G t k o → AlmostClasses G t label factor → (q r : ℕ) → q < t.states → r < t.states → label r ≡ label q →

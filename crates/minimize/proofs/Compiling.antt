@@ -7,6 +7,8 @@ use Rattle.tables.specs.Sheet.{mean_at}
 use Rattle.theory.specs.Series.{WeighAlikeFrom}
 use Rattle.theory.specs.Least.{Least}
 use Rattle.theory.specs.Hyper.{count_below}
+use Rattle.theory.proofs.Lengths.{by_length}
+use Rattle.theory.proofs.Basics.{almost_alike}
 use Rattle.theory.proofs.Minimal.{least_closed, least_is_minimal}
 use Rattle.theory.proofs.Determined.{least_is_determined}
 use Rattle.theory.proofs.Single.{hyper_is_determined}
@@ -83,6 +85,8 @@ promised K t m r lawful made =
     let h = rows_table K (hyper_in t.letters m r) in
     let s = slice_index m.representatives in
     let f = mean_at K m.factors in
+    let agree : WeighAlikeFrom G r.agreement t h =
+    subst (λ n. WeighAlikeFrom G n t h) (sym made.agreement) (hyper_agrees G t l h s f lawful made.least made.hyper) in
     record {
       minimal = least_is_minimal G t l lawful made.least;
       the_least =
@@ -92,11 +96,12 @@ promised K t m r lawful made =
       the_hyper =
           λ k z g hyper.
           hyper_is_determined G l h k s z f g (least_closed G t l lawful made.least) made.hyper hyper;
-      agree =
-          subst (λ n. WeighAlikeFrom G n t h) (sym made.agreement) (hyper_agrees G t l h s f lawful made.least made.hyper);
+      agree = agree;
+      almost = almost_alike G r.agreement t h agree;
       fewest =
           λ b closed alike.
           hyper_is_smallest G t l h b s f lawful made.least made.hyper closed alike;
+      lengths = λ n test. by_length n (λ w. test w ≡ true);
       canonical =
           λ u n p lawful' letters made'.
           let k = rows_table K (least_in u.letters n p) in

@@ -1,11 +1,13 @@
--- Peeling ends with the states that words of every length lead to, or are accepted from. Assumes nothing.
+-- Peeling ends with the states that infinitely many words lead to, or are accepted from. Assumes nothing.
 use Rattle.std.proofs.Common.{◌≡◌, ◌≢◌, ℕ, zero, suc, ◌+◌, ◌*◌, ◌%◌, ◌<◌, ◌≤◌, Bool, true, false, ltb, eqb, List, [], ◌∷◌, ◌++◌, length, get_or, set, replicate, Decides, ◌==◌, inl, inr, sym, refl, ap, ◌∙◌, subst, arith}
 use Rattle.std.proofs.lemmas.Bool.{true≢false, cases_Bool, cases_lt, cases_eq, ltb-false, eq-eqb, ne_eqb}
 use Rattle.std.proofs.lemmas.List.{get_or-replicate, get_or-set_same, get_or-set_other, length-append}
 use Rattle.tables.specs.Table.{Table, Word}
 use Rattle.theory.specs.Runs.{led, accepts, Closed, Reachable, Live, Dead}
-use Rattle.theory.specs.Kernel.{Infinite, Finite, LeadsTo, AcceptedFrom, Kernel, Preamble, CoKernel, CoPreamble}
+use Rattle.theory.specs.Finitely.{FinitelyMany, InfinitelyMany}
+use Rattle.theory.specs.Kernel.{LeadsTo, AcceptedFrom, Kernel, Preamble, CoKernel, CoPreamble}
 use Rattle.theory.specs.Hyper.{count_below}
+use Rattle.theory.proofs.Lengths.{finitely_many, infinitely_many}
 use Rattle.theory.proofs.Basics.{word_append, word_left, word_right, led_append, led_inside}
 use Rattle.tables.specs.Book.{laid}
 use Rattle.weights.specs.Group.{Group, Kind}
@@ -254,17 +256,21 @@ module _ (n s : ℕ) (E : ℕ → ℕ → Type 0) (P : ℕ → List ℕ → Type
 
   told_cases :
       Peeling n s P m → ((q : ℕ) → q < n → m q ≡ true → Held n E m q) → (q : ℕ) → q < n →
-      Tells (m q) (Infinite s (P q)) (Finite s (P q))
+      Tells (m q) (InfinitelyMany s (P q)) (FinitelyMany s (P q))
   told_cases before held q l =
       elim (cases_Bool (m q)) [
-        | inl e ↦ subst (λ b. Tells b (Infinite s (P q)) (Finite s (P q))) (sym e) (λ k. held_long before held k q l e)
-        | inr e ↦ subst (λ b. Tells b (Infinite s (P q)) (Finite s (P q))) (sym e) (before.depth, peeled_short before q l e)
+        | inl e ↦
+            subst (λ b. Tells b (InfinitelyMany s (P q)) (FinitelyMany s (P q))) (sym e)
+            (infinitely_many (λ k. held_long before held k q l e))
+        | inr e ↦
+            subst (λ b. Tells b (InfinitelyMany s (P q)) (FinitelyMany s (P q))) (sym e)
+            (finitely_many before.depth (peeled_short before q l e))
       ]
 
 last_round :
     {n s : ℕ} {E : ℕ → ℕ → Type 0} {P : ℕ → List ℕ → Type 0} {m left : ℕ → Bool} → Growing n s E P → Peeling n s P m →
     Peeled n E m left → ltb (count_below left n) (count_below m n) ≡ false → (q : ℕ) → q < n →
-    Tells (left q) (Infinite s (P q)) (Finite s (P q))
+    Tells (left q) (InfinitelyMany s (P q)) (FinitelyMany s (P q))
 last_round {n = n} {s = s} {E = E} {P = P} {m = m} {left = left} growing before round same =
     told_cases n s E P growing left (peeling_more growing before round) (settled n E m left round same)
 

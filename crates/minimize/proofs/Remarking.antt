@@ -7,6 +7,7 @@ use Rattle.theory.specs.Runs.{led, accepts, Closed}
 use Rattle.theory.specs.Series.{Equivalent}
 use Rattle.theory.specs.Least.{Least}
 use Rattle.theory.specs.Kernel.{Kernel, Preamble, CoKernel, CoPreamble}
+use Rattle.theory.proofs.Lengths.{finitely_fewer, infinitely_more}
 use Rattle.theory.proofs.Basics.{led_inside}
 use Rattle.minimize.specs.Compile.{Tells}
 use Rattle.minimize.proofs.Peeling.{told_as}
@@ -35,13 +36,13 @@ module _ {M : Type 0} (t : Table M) (f : ℕ → Bool) where
   remarked_kernel : (q : ℕ) → Kernel t q → Kernel (remarked t f) q
   remarked_kernel q k =
       record {
-        words = λ n. let w = k.words n in (w.0, w.1, w.2, remarked_led t.start w.0 ∙ w.3);
+        words = infinitely_more (λ w h e. (h, remarked_led t.start w ∙ e)) k.words;
       }
 
   remarked_preamble : (q : ℕ) → Preamble t q → Preamble (remarked t f) q
   remarked_preamble q p =
       record {
-        words = (p.words.0, λ w h e. p.words.1 w h (sym (remarked_led t.start w) ∙ e));
+        words = finitely_fewer (λ w h e. (h, sym (remarked_led t.start w) ∙ e)) p.words;
       }
 
   pub remarked_told_kernel :
@@ -57,13 +58,13 @@ module _ {M : Type 0} (t : Table M) (f : ℕ → Bool) where
     remarked_co_kernel : (q : ℕ) → q < t.states → CoKernel t q → CoKernel (remarked t f) q
     remarked_co_kernel q l k =
         record {
-          words = λ n. let w = k.words n in (w.0, w.1, w.2, remarked_accepts q w.0 l w.1 ∙ w.3);
+          words = infinitely_more (λ w h e. (h, remarked_accepts q w l h ∙ e)) k.words;
         }
 
     remarked_co_preamble : (q : ℕ) → q < t.states → CoPreamble t q → CoPreamble (remarked t f) q
     remarked_co_preamble q l p =
         record {
-          words = (p.words.0, λ w h e. p.words.1 w h (sym (remarked_accepts q w l h) ∙ e));
+          words = finitely_fewer (λ w h e. (h, sym (remarked_accepts q w l h) ∙ e)) p.words;
         }
 
     pub remarked_told_co_kernel :

@@ -11,7 +11,7 @@ use Rattle.theory.specs.Series.{WeighAlikeFrom, AlmostWeighAlike}
 use Rattle.theory.specs.Least.{Least}
 use Rattle.theory.specs.Kernel.{Kernel, Preamble, CoKernel, CoPreamble}
 use Rattle.theory.specs.Hyper.{Hyper, count_below}
-use Rattle.theory.specs.Theorems.{Minimal, SameTable, SameHyper}
+use Rattle.theory.specs.Theorems.{LengthsTell, Minimal, SameTable, SameHyper}
 use Rattle.minimize.specs.Lists.{ListsFollow}
 use Rattle.minimize.specs.Rows.{rows_table, Laid}
 use Rattle.minimize.specs.Memories.{Memories, Room, SameLengths}
@@ -85,9 +85,13 @@ module _ {W : Type 0} (K : Kind W) where
         (slice_index m.representatives) q (mean_at K m.factors) f
     -- source and hyper table weigh every word alike that has at least as many letters as the report tells
     pub agree : WeighAlikeFrom K.group r.agreement t (rows_table K (hyper_in t.letters m r))
-    -- every table of the kind and the letters that weighs all but finitely many words as the source does has at least as many states
-    -- as the hyper table
+    -- so they weigh all words alike but those of some list
+    pub almost : AlmostWeighAlike K.group t (rows_table K (hyper_in t.letters m r))
+    -- every table of the kind and the letters that weighs all words but those of some list as the source does has at least as many
+    -- states as the hyper table
     pub fewest : (b : Table K.group.Mean) → Closed b → AlmostWeighAlike K.group t b → r.hyper ≤ b.states
+    -- finitely many words, infinitely many and all but finitely many are told by lengths as well as by lists
+    pub lengths : LengthsTell
     -- Any other source of the kind and the letters, wherever it was compiled: the least tables that are left are equal in count,
     -- targets, weights and marks exactly where both sources weigh every word alike.
     pub canonical :

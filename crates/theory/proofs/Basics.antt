@@ -7,7 +7,8 @@ use Rattle.weights.proofs.Groups.{one_right, inv_right}
 use Rattle.tables.specs.Table.{Table, Lawful, Word, scaled, weight_from, WeighAlike}
 use Rattle.tables.proofs.Reading.{scaled_twice, within_true, some_injective}
 use Rattle.theory.specs.Runs.{led, accepts, Closed, Reachable}
-use Rattle.theory.specs.Series.{Series, Multiple, AlmostBy, AlmostEquivalent, WeighAlikeFrom}
+use Rattle.theory.specs.Series.{Series, Multiple, AlmostMultiple, AlmostBy, AlmostEquivalent, WeighAlikeFrom, AlmostWeighAlike}
+use Rattle.theory.proofs.Lengths.{all_longer, all_but_finitely_many}
 
 -- start and arcs of a lawful table stay inside
 pub lawful_closed : {M : Type 0} (t : Table M) → Lawful t → Closed t
@@ -146,6 +147,19 @@ module _ {G : Group} {s : ℕ} where
   pub multiple_later : {n m : ℕ} {k : G.Mean} {f g : Series G} → n ≤ m → Multiple G s n k f g → Multiple G s m k f g
   multiple_later {n} {m} {k} {f} {g} e x = record { words = λ w h r. x.words w h (omega arith) }
 
+-- a multiple from some length on
+pub record MultipleFrom (G : Group) (s : ℕ) (k : G.Mean) (f g : Series G) : Type 0 where
+  pub from : ℕ
+  pub multiple : Multiple G s from k f g
+
+-- is one on all words but finitely many, and the other way round
+module _ {G : Group} {s : ℕ} where
+  pub almost_multiple : {n : ℕ} {k : G.Mean} {f g : Series G} → Multiple G s n k f g → AlmostMultiple G s k f g
+  almost_multiple {n} m = record { words = all_but_finitely_many n m.words }
+
+  pub multiple_from : {k : G.Mean} {f g : Series G} → AlmostMultiple G s k f g → MultipleFrom G s k f g
+  multiple_from a = let x = all_longer a.words in record { from = x.0; multiple = record { words = x.1 } }
+
 -- multiples of what two tables weigh words as
 module _ (G : Group) (t u : Table G.Mean) {s n : ℕ} {k : G.Mean} (q p : ℕ) where
   -- after a word: what it weighs in the one table is taken away, and what it weighs in the other is added
@@ -182,6 +196,13 @@ module _ (G : Group) (t u : Table G.Mean) {s n : ℕ} {k : G.Mean} (q p : ℕ) w
 -- tables that weigh every word alike weigh long words alike
 pub alike_from : (G : Group) (n : ℕ) (t u : Table G.Mean) → WeighAlike G t u → WeighAlikeFrom G n t u
 alike_from G n t u x = record { letters = x.letters; words = λ w h l. x.words w h }
+
+-- to weigh all words from some length on alike is to weigh all but finitely many alike, and the other way round
+pub almost_alike : (G : Group) (n : ℕ) (t u : Table G.Mean) → WeighAlikeFrom G n t u → AlmostWeighAlike G t u
+almost_alike G n t u x = record { letters = x.letters; words = all_but_finitely_many n x.words }
+
+pub alike_from_length : (G : Group) (t u : Table G.Mean) → AlmostWeighAlike G t u → (n : ℕ) × WeighAlikeFrom G n t u
+alike_from_length G t u x = let long = all_longer x.words in (long.0, record { letters = x.letters; words = long.1 })
 
 -- two tables that weigh all words of at least n letters alike
 module _ (G : Group) (t u : Table G.Mean) (n : ℕ) (alike : WeighAlikeFrom G n t u) where
@@ -220,31 +241,37 @@ module _ (G : Group) (t u : Table G.Mean) (n : ℕ) (alike : WeighAlikeFrom G n 
 -- almost-equivalence is an equivalence
 module _ (G : Group) (t : Table G.Mean) where
   pub almost_by_itself : (q : ℕ) → AlmostBy G t G.one q q
-  almost_by_itself q = record { from = 0; multiple = multiple_refl G t.letters 0 (weight_from G t q) }
+  almost_by_itself q = almost_multiple (multiple_refl G t.letters 0 (weight_from G t q))
+
+  pub almost_by_sym : (k : G.Mean) (q p : ℕ) → AlmostBy G t k q p → AlmostBy G t (G.inv k) p q
+  almost_by_sym k q p x = almost_multiple (multiple_sym (multiple_from x).multiple)
+
+  pub almost_by_trans : (k m : G.Mean) (q p o : ℕ) → AlmostBy G t k q p → AlmostBy G t m p o → AlmostBy G t (G.mul k m) q o
+  almost_by_trans k m q p o x y =
+      let a = multiple_from x in
+      let b = multiple_from y in
+      almost_multiple {n = a.from + b.from}
+      (multiple_trans (multiple_later (omega arith) a.multiple) (multiple_later (omega arith) b.multiple))
+
+  -- a letter leads them to such
+  pub almost_by_next :
+      (k : G.Mean) (q p a : ℕ) → a < t.letters → AlmostBy G t k q p →
+      AlmostBy G t (G.mul (G.inv (walked G t q (a ∷ []))) (G.mul k (walked G t p (a ∷ [])))) (t.target q a) (t.target p a)
+  almost_by_next k q p a l x = almost_multiple (multiple_after G t t q p (a ∷ []) (l, tt) (multiple_from x).multiple)
 
   pub almost_refl : (q : ℕ) → AlmostEquivalent G t q q
   almost_refl q = record { factor = G.one; by = almost_by_itself q }
 
   pub almost_sym : (q p : ℕ) → AlmostEquivalent G t q p → AlmostEquivalent G t p q
-  almost_sym q p e =
-      record { factor = G.inv e.factor; by = record { from = e.by.from; multiple = multiple_sym e.by.multiple } }
+  almost_sym q p e = record { factor = G.inv e.factor; by = almost_by_sym e.factor q p e.by }
 
   pub almost_trans : (q p o : ℕ) → AlmostEquivalent G t q p → AlmostEquivalent G t p o → AlmostEquivalent G t q o
   almost_trans q p o e d =
-      record {
-        factor = G.mul e.factor d.factor;
-        by =
-            record {
-              from = e.by.from + d.by.from;
-              multiple =
-                  multiple_trans (multiple_later (omega arith) e.by.multiple) (multiple_later (omega arith) d.by.multiple);
-            };
-      }
+      record { factor = G.mul e.factor d.factor; by = almost_by_trans e.factor d.factor q p o e.by d.by }
 
-  -- a letter leads them to such
   pub almost_next : (q p a : ℕ) → a < t.letters → AlmostEquivalent G t q p → AlmostEquivalent G t (t.target q a) (t.target p a)
   almost_next q p a l e =
       record {
         factor = G.mul (G.inv (walked G t q (a ∷ []))) (G.mul e.factor (walked G t p (a ∷ [])));
-        by = record { from = e.by.from - 1; multiple = multiple_after G t t q p (a ∷ []) (l, tt) e.by.multiple };
+        by = almost_by_next e.factor q p a l e.by;
       }

@@ -6,6 +6,7 @@ use Rattle.tables.specs.Table.{Table, Word, scaled, weight_from, WeighAlike}
 use Rattle.theory.specs.Runs.{led, Closed}
 use Rattle.theory.specs.Kernel.{Kernel, CoKernel}
 use Rattle.theory.specs.Theorems.{SameTable}
+use Rattle.theory.proofs.Lengths.{infinitely_more}
 use Rattle.theory.proofs.Basics.{led_inside}
 
 -- two tables are equal in count, targets, weights and finality
@@ -31,37 +32,38 @@ equal_turned G t u e =
       weight = λ q a l m. sym (e.weight q a (subst (λ n. q < n) (sym e.states) l) (subst (λ n. a < n) (sym e.letters) m));
     }
 
-module _ (G : Group) (t u : Table G.Mean) (closed : Closed t) (e : EqualParts G t u) where
-  -- each word leads to one state in both, so they have the same kernel and co-kernel states
-  led_alike : (q : ℕ) (w : List ℕ) → q < t.states → Word t.letters w → led t q w ≡ led u q w
-  led_alike q [] l h = refl
-  led_alike q (a ∷ w) l h =
-      led_alike (t.target q a) w (closed.target_inside q a l h.0) h.1 ∙ ap (λ p. led u p w) (e.target q a l h.0)
+-- by equal targets each word leads to one state in both
+pub led_alike :
+    {M : Type 0} (t u : Table M) → Closed t → ((q a : ℕ) → q < t.states → a < t.letters → t.target q a ≡ u.target q a) → (q : ℕ)
+    (w : List ℕ) → q < t.states → Word t.letters w → led t q w ≡ led u q w
+led_alike t u closed targets q [] l h = refl
+led_alike t u closed targets q (a ∷ w) l h =
+    led_alike t u closed targets (t.target q a) w (closed.target_inside q a l h.0) h.1 ∙ ap (λ p. led u p w) (targets q a l h.0)
 
+-- so they have the same kernel and co-kernel states
+module _ (G : Group) (t u : Table G.Mean) (closed : Closed t) (e : EqualParts G t u) where
   kernel_alike : (q : ℕ) → Kernel t q → Kernel u q
   kernel_alike q k =
       record {
         words =
-            λ n.
-            let w = k.words n in (
-              w.0,
-              subst (λ s. Word s w.0) e.letters w.1,
-              w.2,
-              ap (λ p. led u p w.0) (sym e.start) ∙ sym (led_alike t.start w.0 closed.start_inside w.1) ∙ w.3,
-            );
+            infinitely_more
+            (λ w h leads. (
+              subst (λ s. Word s w) e.letters h,
+              ap (λ p. led u p w) (sym e.start) ∙ sym (led_alike t u closed e.target t.start w closed.start_inside h) ∙ leads,
+            ))
+            k.words;
       }
 
   co_kernel_alike : (q : ℕ) → q < t.states → CoKernel t q → CoKernel u q
   co_kernel_alike q l k =
       record {
         words =
-            λ n.
-            let w = k.words n in (
-              w.0,
-              subst (λ s. Word s w.0) e.letters w.1,
-              w.2,
-              ap u.final (sym (led_alike q w.0 l w.1)) ∙ sym (e.final (led t q w.0) (led_inside t closed q w.0 l w.1)) ∙ w.3,
-            );
+            infinitely_more
+            (λ w h accepted. (
+              subst (λ s. Word s w) e.letters h,
+              ap u.final (sym (led_alike t u closed e.target q w l h)) ∙ sym (e.final (led t q w) (led_inside t closed q w l h)) ∙ accepted,
+            ))
+            k.words;
       }
 
 -- closed ones are then the same
@@ -83,7 +85,7 @@ equal_same G t u closed closed' e =
 
 -- the same table weighs every word alike
 module _ (G : Group) (l m : Table G.Mean) (closed : Closed l) (same : SameTable G l m) where
-  weighs_from : (q : ℕ) (w : List ℕ) → q < l.states → Word l.letters w → weight_from G l q w ≡ weight_from G m q w
+  pub weighs_from : (q : ℕ) (w : List ℕ) → q < l.states → Word l.letters w → weight_from G l q w ≡ weight_from G m q w
   weighs_from q [] h word = ap (λ b. within b G.one) (same.final q h)
   weighs_from q (a ∷ w) h word =
       ap (scaled G (l.weight q a)) (weighs_from (l.target q a) w (closed.target_inside q a h word.0) word.1)

@@ -9,7 +9,8 @@ use Rattle.theory.specs.Least.{Least}
 use Rattle.theory.specs.Kernel.{Kernel, Preamble}
 use Rattle.theory.specs.Hyper.{Hyper, count_below}
 use Rattle.theory.specs.Theorems.{HyperIsSmallest}
-use Rattle.theory.proofs.Basics.{led_inside, one_state, almost_sym}
+use Rattle.theory.proofs.Lengths.{some_longer}
+use Rattle.theory.proofs.Basics.{led_inside, one_state, almost_multiple, alike_from_length, almost_sym}
 use Rattle.theory.proofs.Pigeonhole.{two_alike}
 use Rattle.theory.proofs.Search.{kernel_or_preamble, kernel_not_preamble}
 use Rattle.theory.proofs.Minimal.{least_closed, least_alike_from, least_reachable, least_is_minimal}
@@ -43,17 +44,21 @@ record ChosenWord (kept : ℕ → Bool) {M : Type 0} (l : Table M) (long i : ℕ
 
 module _ (G : Group) (t l h b : Table G.Mean) (r : ℕ → ℕ) (f : ℕ → G.Mean)
     (lawful : Lawful t) (least : Least G t l) (hyper : Hyper G l h r f) (closed : Closed b) (alike : AlmostWeighAlike G t b) where
-  -- the rival weighs long words as the least table
-  rival_alike : WeighAlikeFrom G alike.from l b
-  rival_alike = least_alike_from G t l lawful least alike.from b alike.alike
+  -- from some length on the rival weighs words as the least table
+  long : ℕ
+  long = (alike_from_length G t b alike).0
+
+  rival_alike : WeighAlikeFrom G long l b
+  unfolding long
+  rival_alike = least_alike_from G t l lawful least long b (alike_from_length G t b alike).1
 
   -- a word for each kept state
-  choose : (i : ℕ) → i < count_below hyper.kept l.states → ChosenWord hyper.kept l alike.from i
+  choose : (i : ℕ) → i < count_below hyper.kept l.states → ChosenWord hyper.kept l long i
   choose i m =
       let s : Numbered hyper.kept l.states i = numbered hyper.kept l.states i m in
       elim (kernel_or_preamble l (least_closed G t l lawful least) s.state s.inside) [
         | inl kernel ↦
-            (let w = kernel.words alike.from in
+            (let w = some_longer kernel.words long in
             record { numbered = s; word = w.0; is_word = w.1; leads = w.3; far = λ k. w.2 })
         | inr preamble ↦
             (let w = least_reachable G t l lawful least s.state s.inside in
@@ -68,14 +73,14 @@ module _ (G : Group) (t l h b : Table G.Mean) (r : ℕ → ℕ) (f : ℕ → G.M
 
   -- two chosen words that lead the rival to one state are for one number
   rival_tells :
-      (i j : ℕ) (x : ChosenWord hyper.kept l alike.from i) (y : ChosenWord hyper.kept l alike.from j) →
+      (i j : ℕ) (x : ChosenWord hyper.kept l long i) (y : ChosenWord hyper.kept l long j) →
       led b b.start x.word ≡ led b b.start y.word → x.numbered.state ≡ y.numbered.state
   rival_tells i j x y e =
       let q = x.numbered.state in
       let p = y.numbered.state in
-      let n = alike.from - length x.word + (alike.from - length y.word) in
-      let m = one_state G l b alike.from rival_alike q p x.word y.word x.is_word y.is_word x.leads y.leads e in
-      let almost : AlmostEquivalent G l q p = record { factor = m.0; by = record { from = n; multiple = m.1 } } in
+      let n = long - length x.word + (long - length y.word) in
+      let m = one_state G l b long rival_alike q p x.word y.word x.is_word y.is_word x.leads y.leads e in
+      let almost : AlmostEquivalent G l q p = record { factor = m.0; by = almost_multiple m.1 } in
       elim (kernel_or_preamble l (least_closed G t l lawful least) q x.numbered.inside) [
         | inr preamble ↦
             alone G l h r f (least_closed G t l lawful least) hyper q p x.numbered.inside y.numbered.inside x.numbered.is_kept y.numbered.is_kept preamble almost

@@ -12,7 +12,8 @@ use Rattle.theory.specs.Runs.{led, Closed, Reachable}
 use Rattle.theory.specs.Series.{AlmostBy, AlmostEquivalent}
 use Rattle.theory.specs.Kernel.{Kernel, Preamble}
 use Rattle.theory.specs.Hyper.{Hyper, Representative, SmallestPreamble, count_below}
-use Rattle.theory.proofs.Basics.{scaled_one, word_append, word_left, word_right, word_drop, led_append, led_inside, walked, weight_append, almost_by_itself, almost_refl, almost_sym, almost_trans, almost_next}
+use Rattle.theory.proofs.Lengths.{infinitely_many, some_longer}
+use Rattle.theory.proofs.Basics.{scaled_one, word_append, word_left, word_right, word_drop, led_append, led_inside, walked, weight_append, multiple_from, almost_by_itself, almost_refl, almost_sym, almost_trans, almost_next}
 use Rattle.theory.proofs.Search.{times, times_word, times_long, times_led, pumped, loops, kernel_or_preamble, kernel_not_preamble}
 
 -- a run over u from q passes a state that some further word leads back to
@@ -60,10 +61,11 @@ module _ {M : Type 0} (t : Table M) where
       let o = detour closed letter t.start u closed.start_inside h long in
       record {
         words =
-            λ n.
+            infinitely_many
+            (λ n.
             let z =
             pumped t t.start n o.before o.round o.after o.before_is_word o.round_is_word o.after_is_word o.some o.again in
-            (z.0, z.1, z.2, z.3 ∙ sym (led_append t t.start o.before o.after) ∙ ap (led t t.start) o.whole);
+            (z.0, z.1, z.2, z.3 ∙ sym (led_append t t.start o.before o.after) ∙ ap (led t t.start) o.whole));
       }
 
   -- a kernel state leads to kernel states
@@ -71,13 +73,14 @@ module _ {M : Type 0} (t : Table M) where
   kernel_next q a l k =
       record {
         words =
-            λ n.
-            let w = k.words n in (
+            infinitely_many
+            (λ n.
+            let w = some_longer k.words n in (
               w.0 ++ (a ∷ []),
               word_append t.letters w.0 (a ∷ []) w.1 (l, tt),
               omega (arith, length-append w.0 (a ∷ []), w.2),
               led_append t t.start w.0 (a ∷ []) ∙ ap (λ p. t.target p a) w.3,
-            );
+            ));
       }
 
 -- the start weight and the product of the weights along a word from the start
@@ -284,7 +287,7 @@ module _ (G : Group) (l h : Table G.Mean) (r : ℕ → ℕ) (f : ℕ → G.Mean)
   carried q (a ∷ u) i o =
       let p : ℕ = l.target q a in
       let inside : p < l.states = closed.target_inside q a i o.0 in
-      let m = moved_by p inside in
+      let m = multiple_from (moved_by p inside) in
       let next = carried (moved p) u (moved_inside p inside) o.1 in
       record {
         from = m.from + next.from;
@@ -317,7 +320,7 @@ module _ (G : Group) (l h : Table G.Mean) (r : ℕ → ℕ) (f : ℕ → G.Mean)
 
   pub followed : (u : List ℕ) → Word l.letters u → Followed u
   followed u o =
-      let m = moved_by l.start closed.start_inside in
+      let m = multiple_from (moved_by l.start closed.start_inside) in
       let next = carried (moved l.start) u (moved_inside l.start closed.start_inside) o in
       record {
         from = m.from + next.from;

@@ -10,7 +10,8 @@ use Rattle.theory.specs.Runs.{led, Closed}
 use Rattle.theory.specs.Series.{AlmostBy, AlmostEquivalent}
 use Rattle.theory.specs.Kernel.{Kernel, Preamble, CoKernel}
 use Rattle.theory.specs.Hyper.{Hyper, Representative, count_below}
-use Rattle.theory.proofs.Basics.{scaled_told, word_append, led_inside, walked, accepted_weighs, weight_append, almost_by_itself}
+use Rattle.theory.proofs.Lengths.{finitely_many, infinitely_many, some_longer}
+use Rattle.theory.proofs.Basics.{scaled_told, word_append, led_inside, walked, accepted_weighs, weight_append, almost_multiple, multiple_from, almost_by_itself}
 use Rattle.theory.proofs.Search.{pumped, kernel_not_preamble, co_kernel_not_preamble}
 use Rattle.theory.proofs.Tests.{all_below, all_both, at_each, at_both, given, either, is_word, word_there, is_closed, closed_there, Coded, same, same_there, same_true, ratio, ratio_told}
 
@@ -57,7 +58,7 @@ module _ (G : Group) (t : Table G.Mean) where
       (q p : ℕ) (k : G.Mean) → ((a : ℕ) → a < t.letters → t.target q a ≡ t.target p a) →
       ((a : ℕ) → a < t.letters → t.weight q a ≡ G.mul k (t.weight p a)) → AlmostBy G t k q p
   same_arcs q p k targets weights =
-      record { from = 1; multiple = record { words = words } }
+      almost_multiple {n = 1} (record { words = words })
     where
       words : (w : List ℕ) → Word t.letters w → 1 ≤ length w → weight_from G t q w ≡ scaled G k (weight_from G t p w)
       words [] h l = absurd (omega arith)
@@ -71,14 +72,15 @@ module _ (G : Group) (t : Table G.Mean) where
       (q p : ℕ) (k : G.Mean) (v : List ℕ) → Word t.letters v → led t q v ≡ led t p v → CoKernel t (led t p v) →
       AlmostBy G t k q p → walked G t q v ≡ G.mul k (walked G t p v)
   word_told q p k v h e c m =
-      let z = c.words m.from in
+      let x = multiple_from m in
+      let z = some_longer c.words x.from in
       let r = led t p v in
       let some = accepted_weighs G t r z.0 z.3 in
       let o = weight_from G t r z.0 in
       scaled_told G (walked G t q v) (G.mul k (walked G t p v)) (walked G t r z.0) o o some some
       (ap (λ y. scaled G (walked G t q v) (weight_from G t y z.0)) (sym e)
       ∙ sym (weight_append G t q v z.0)
-      ∙ m.multiple.words (v ++ z.0) (word_append t.letters v z.0 h z.1) (omega (arith, length-append v z.0, z.2))
+      ∙ x.multiple.words (v ++ z.0) (word_append t.letters v z.0 h z.1) (omega (arith, length-append v z.0, z.2))
       ∙ ap (scaled G k) (weight_append G t p v z.0)
       ∙ scaled_twice G k (walked G t p v) o)
 
@@ -187,33 +189,35 @@ module _ (G : Group) (c : Coded G) (t h : Table G.Mean) (r : ℕ → ℕ) (f : �
       let goes = and_parts _ _ (given _ _ (at_each _ _ x.kernel q l) k) in
       record {
         words =
-            λ n.
+            infinitely_many
+            (λ n.
             let z = round_there t t.start w.before w.round (w.after q) x.round (word_there _ _ goes.0) n in
-            (z.0, z.1, z.2, z.3 ∙ eqb-true _ _ goes.1);
+            (z.0, z.1, z.2, z.3 ∙ eqb-true _ _ goes.1));
       }
 
   pub other_preamble : (q : ℕ) → w.kernel q ≡ false → Preamble t q
   other_preamble q other =
       record {
-        words = (
-          w.few,
-          λ v m e.
-              elim (cases_lt (length v) w.few) [
-                | inl short ↦ short
-                | inr long ↦
-                    absurd (both_ways (w.kernel q) other
-                    (subst (λ p. w.kernel p ≡ true) e
-                    (settled t w.kernel (λ q a l n. given _ _ (at_both _ _ _ x.stays q a l n)) closed w.few t.start v
-                    closed.start_inside x.few m long)))
-              ],
-        );
+        words =
+            finitely_many w.few
+            (λ v m e.
+            elim (cases_lt (length v) w.few) [
+              | inl short ↦ short
+              | inr long ↦
+                  absurd (both_ways (w.kernel q) other
+                  (subst (λ p. w.kernel p ≡ true) e
+                  (settled t w.kernel (λ q a l n. given _ _ (at_both _ _ _ x.stays q a l n)) closed w.few t.start v
+                  closed.start_inside x.few m long)))
+            ]);
       }
 
   pub all_co_kernel : (q : ℕ) → q < t.states → CoKernel t q
   all_co_kernel q l =
       let goes = and_parts _ _ (at_each _ _ x.out q l) in
       record {
-        words = λ n. let z = round_there t q w.out w.again [] goes.0 tt n in (z.0, z.1, z.2, ap t.final z.3 ∙ goes.1);
+        words =
+            infinitely_many
+            (λ n. let z = round_there t q w.out w.again [] goes.0 tt n in (z.0, z.1, z.2, ap t.final z.3 ∙ goes.1));
       }
 
   -- almost-equivalent states have one representative

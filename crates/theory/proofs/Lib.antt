@@ -1,3 +1,4 @@
+pub mod Lengths
 pub mod Basics
 pub mod Pigeonhole
 pub mod Equal
@@ -10,6 +11,7 @@ pub mod Agreement
 pub mod Kept
 pub mod Fewest
 pub mod Single
+pub mod HyperAlike
 pub mod Tests
 pub mod LeastTests
 pub mod HyperTests

@@ -7,8 +7,10 @@ use Rattle.weights.specs.Group.{Group}
 use Rattle.tables.specs.Table.{Table, Word, weight_from}
 use Rattle.tables.proofs.Reading.{some_injective}
 use Rattle.theory.specs.Runs.{led, accepts, Closed, Live, Dead}
-use Rattle.theory.specs.Kernel.{Infinite, Finite, Kernel, Preamble, CoKernel, CoPreamble, LeadsTo, AcceptedFrom}
+use Rattle.theory.specs.Finitely.{FinitelyMany, InfinitelyMany}
+use Rattle.theory.specs.Kernel.{Kernel, Preamble, CoKernel, CoPreamble}
 use Rattle.theory.specs.Push.{Earlier, Smaller, Smallest, Push}
+use Rattle.theory.proofs.Lengths.{finitely_many, infinitely_many, not_both, finitely_fewer, infinitely_more}
 use Rattle.theory.proofs.Basics.{word_append, word_left, word_right, word_take, led_append, led_inside, walked, accepted_weighs}
 use Rattle.theory.proofs.Pigeonhole.{first_below, pigeonhole}
 
@@ -255,7 +257,7 @@ module _ {M : Type 0} (t : Table M) (closed : Closed t) where
   -- words that lead from q to a state that passes a test
   pub infinite_or_finite :
       (q : ℕ) (test : ℕ → Bool) → q < t.states →
-      Infinite t.letters (λ w. test (led t q w) ≡ true) ⊎ Finite t.letters (λ w. test (led t q w) ≡ true)
+      InfinitelyMany t.letters (λ w. test (led t q w) ≡ true) ⊎ FinitelyMany t.letters (λ w. test (led t q w) ≡ true)
   infinite_or_finite q test l =
       elim (first_below t.states (λ i. Found t test q (t.states + i)) (λ i. Missing t test q (t.states + i))
       (λ i m. found_or_missing t test (t.states + i) q)) [
@@ -263,33 +265,29 @@ module _ {M : Type 0} (t : Table M) (closed : Closed t) where
             (let f = x.2 in
             let long : length f.word ≡ t.states + x.0 = f.long in
             let o = loops q f.word l f.is_word (omega arith) in
-            inl (λ n. let z = longer t q n f.word o f.is_word in (z.0, z.1, z.2, ap test z.3 ∙ f.passes)))
+            inl
+            (infinitely_many (λ n. let z = longer t q n f.word o f.is_word in (z.0, z.1, z.2, ap test z.3 ∙ f.passes))))
         | inr none ↦
-            inr (
-              t.states,
-              λ w h p.
-                  elim (cases_lt (length w) t.states) [
-                    | inl short ↦ short
-                    | inr long ↦
-                        (let v = cut_down (length w) q w (omega arith) l h long in
-                        let least : t.states ≤ length v.0 = v.2 in
-                        let most : length v.0 < t.states + t.states = v.3 in
-                        absurd ((none (length v.0 - t.states) (omega arith)).none v.0 v.1 (omega arith) (ap test v.4 ∙ p)))
-                  ],
-            )
+            inr
+            (finitely_many t.states
+            (λ w h p.
+            elim (cases_lt (length w) t.states) [
+              | inl short ↦ short
+              | inr long ↦
+                  (let v = cut_down (length w) q w (omega arith) l h long in
+                  let least : t.states ≤ length v.0 = v.2 in
+                  let most : length v.0 < t.states + t.states = v.3 in
+                  absurd ((none (length v.0 - t.states) (omega arith)).none v.0 v.1 (omega arith) (ap test v.4 ∙ p)))
+            ]))
       ]
 
   pub kernel_or_preamble : (q : ℕ) → q < t.states → Kernel t q ⊎ Preamble t q
   kernel_or_preamble q l =
       elim (infinite_or_finite t.start (λ p. eqb p q) closed.start_inside) [
         | inl many ↦
-            inl (
-            record {
-              words = λ n. let w = many n in (w.0, w.1, w.2, eqb-true (led t t.start w.0) q w.3);
-            })
+            inl (record { words = infinitely_more (λ w h e. (h, eqb-true (led t t.start w) q e)) many })
         | inr few ↦
-            inr (
-            record { words = (few.0, λ w h e. few.1 w h (eq-eqb (led t t.start w) q e)) })
+            inr (record { words = finitely_fewer (λ w h e. (h, eq-eqb (led t t.start w) q e)) few })
       ]
 
   pub co_kernel_or_preamble : (q : ℕ) → q < t.states → CoKernel t q ⊎ CoPreamble t q
@@ -321,18 +319,12 @@ module _ {M : Type 0} (t : Table M) (closed : Closed t) where
         | inr none ↦ absurd ((none (length live.by) (omega arith)).none live.by live.is_word refl live.accepted)
       ]
 
--- no property has both infinitely many words and finitely many
-not_both : {s : ℕ} (P : List ℕ → Type 0) → Infinite s P → Finite s P → ⊥
-not_both P many few =
-    let long = many few.0 in
-    let short : length long.0 < few.0 = few.1 long.0 long.1 long.3 in
-    omega arith
-
+-- no state is both
 pub kernel_not_preamble : {M : Type 0} (t : Table M) (q : ℕ) → Kernel t q → Preamble t q → ⊥
-kernel_not_preamble t q k p = not_both (LeadsTo t q) k.words p.words
+kernel_not_preamble t q k p = not_both k.words p.words
 
 pub co_kernel_not_preamble : {M : Type 0} (t : Table M) (q : ℕ) → CoKernel t q → CoPreamble t q → ⊥
-co_kernel_not_preamble t q k p = not_both (AcceptedFrom t q) k.words p.words
+co_kernel_not_preamble t q k p = not_both k.words p.words
 
 -- no state is both live and dead
 pub live_not_dead : {M : Type 0} (t : Table M) (q : ℕ) → Live t q → Dead t q → ⊥

@@ -8,7 +8,8 @@ use Rattle.theory.specs.Series.{AlmostBy}
 use Rattle.theory.specs.Kernel.{CoKernel}
 use Rattle.theory.specs.Hyper.{Hyper, Representative, Factor, count_below}
 use Rattle.theory.specs.Theorems.{HyperIsDetermined}
-use Rattle.theory.proofs.Basics.{scaled_told, walked, accepted_weighs, multiple_accepts}
+use Rattle.theory.proofs.Lengths.{some_longer}
+use Rattle.theory.proofs.Basics.{scaled_told, walked, accepted_weighs, multiple_accepts, multiple_from}
 use Rattle.theory.proofs.Search.{kernel_or_preamble, co_kernel_or_preamble, kernel_not_preamble}
 use Rattle.theory.proofs.HyperRun.{moved, moved_kept, moved_inside}
 use Rattle.theory.proofs.Equal.{EqualParts, equal_same}
@@ -38,12 +39,14 @@ module _ (G : Group) (t : Table G.Mean) where
   -- a state from which infinitely many words are accepted has one factor towards another state
   pub one_almost : (q r : ℕ) (k m : G.Mean) → CoKernel t q → AlmostBy G t k q r → AlmostBy G t m q r → k ≡ m
   one_almost q r k m c x y =
-      let z = c.words (x.from + y.from) in
+      let a = multiple_from x in
+      let b = multiple_from y in
+      let z = some_longer c.words (a.from + b.from) in
       let w : List ℕ = z.0 in
-      let accepted : accepts t r w ≡ true = sym (multiple_accepts G t t q r x.multiple w z.1 (omega (arith, z.2))) ∙ z.3 in
+      let accepted : accepts t r w ≡ true = sym (multiple_accepts G t t q r a.multiple w z.1 (omega (arith, z.2))) ∙ z.3 in
       let some : weight_from G t r w ≡ Some (walked G t r w) = accepted_weighs G t r w accepted in
       scaled_told G k m (walked G t r w) (weight_from G t r w) (weight_from G t r w) some some
-      (sym (x.multiple.words w z.1 (omega (arith, z.2))) ∙ y.multiple.words w z.1 (omega (arith, z.2)))
+      (sym (a.multiple.words w z.1 (omega (arith, z.2))) ∙ b.multiple.words w z.1 (omega (arith, z.2)))
 
 -- and one factor towards its representative
 pub one_factor :

@@ -1,4 +1,5 @@
 pub mod Runs
+pub mod Finitely
 pub mod Series
 pub mod Push
 pub mod Least

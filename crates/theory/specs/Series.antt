@@ -2,6 +2,7 @@
 use Rattle.std.specs.Prelude.{◌≡◌, ℕ, ◌≤◌, List, length, Option}
 use Rattle.weights.specs.Group.{Group}
 use Rattle.tables.specs.Table.{Table, Word, scaled, weight_from, weight_of}
+use Rattle.theory.specs.Finitely.{AllButFinitelyMany}
 
 -- a series gives each word a weight, or none
 abbrev pub Series : Group → Type 0
@@ -11,10 +12,9 @@ Series G = List ℕ → Option G.Mean
 pub record Multiple (G : Group) (s n : ℕ) (k : G.Mean) (f g : Series G) : Type 0 where
   pub words : (w : List ℕ) → Word s w → n ≤ length w → f w ≡ scaled G k (g w)
 
--- f is k times g on all but finitely many words. There are finitely many words below each length, so this says: from some length on.
+-- f is k times g on all words but finitely many
 pub record AlmostMultiple (G : Group) (s : ℕ) (k : G.Mean) (f g : Series G) : Type 0 where
-  pub from : ℕ
-  pub multiple : Multiple G s from k f g
+  pub words : AllButFinitelyMany s (λ w. f w ≡ scaled G k (g w))
 
 module _ (G : Group) (t : Table G.Mean) where
   -- states q and p are equivalent with factor k: the weight from q is k times that from p, for every word
@@ -40,7 +40,7 @@ pub record WeighAlikeFrom (G : Group) (n : ℕ) (t u : Table G.Mean) : Type 0 wh
   pub letters : t.letters ≡ u.letters
   pub words : (w : List ℕ) → Word t.letters w → n ≤ length w → weight_of G t w ≡ weight_of G u w
 
--- two tables have the same letters, and weigh all but finitely many words alike, which is again to say: from some length on
+-- two tables have the same letters, and weigh all words but finitely many alike
 pub record AlmostWeighAlike (G : Group) (t u : Table G.Mean) : Type 0 where
-  pub from : ℕ
-  pub alike : WeighAlikeFrom G from t u
+  pub letters : t.letters ≡ u.letters
+  pub words : AllButFinitelyMany t.letters (λ w. weight_of G t w ≡ weight_of G u w)

@@ -1,8 +1,9 @@
--- What holds of least and hyper tables, over every group. Assumes nothing.
-use Rattle.std.specs.Prelude.{◌≡◌, ℕ, ◌-◌, ◌*◌, ◌<◌, ◌≤◌, ◌↔◌}
+-- What holds of least and hyper tables, over every group, and of finitely many words. Assumes nothing.
+use Rattle.std.specs.Prelude.{◌≡◌, ℕ, ◌-◌, ◌*◌, ◌<◌, ◌≤◌, ◌↔◌, Bool, true, List}
 use Rattle.weights.specs.Group.{Group}
 use Rattle.tables.specs.Table.{Table, Lawful, WeighAlike}
 use Rattle.theory.specs.Runs.{Closed}
+use Rattle.theory.specs.Finitely.{ByLength}
 use Rattle.theory.specs.Series.{Equivalent, WeighAlikeFrom, AlmostWeighAlike}
 use Rattle.theory.specs.Push.{Push}
 use Rattle.theory.specs.Least.{Least}
@@ -35,6 +36,11 @@ pub record SameHyper (G : Group) (t h k : Table G.Mean) (r s : ℕ → ℕ) (f g
   pub table : SameTable G h k
   pub representatives : (q : ℕ) → q < t.states → r q ≡ s q
   pub factors : (q : ℕ) → q < t.states → f q ≡ g q
+
+-- whatever a test tells of words, over any alphabet: whether finitely many words pass it, infinitely many, or all but finitely many, is
+-- told by their lengths
+abbrev pub LengthsTell : Type 0
+LengthsTell = (s : ℕ) (test : List ℕ → Bool) → ByLength s (λ w. test w ≡ true)
 
 module _ (G : Group) where
   -- each least table is minimal

@@ -1,14 +1,15 @@
 -- A hyper table of a table is one of each table that is the same. Assumes nothing.
-use Rattle.std.proofs.Common.{◌≡◌, ℕ, ◌<◌, cond, List, [], ◌∷◌, inl, inr, sym, refl, ap, ◌∙◌, subst, arith}
-use Rattle.weights.specs.Codes.{within}
+use Rattle.std.proofs.Common.{ℕ, ◌<◌, cond, List, inl, inr, sym, ap, ◌∙◌, subst, arith}
 use Rattle.weights.specs.Group.{Group}
-use Rattle.tables.specs.Table.{Table, Word, scaled, weight_from}
+use Rattle.tables.specs.Table.{Table, Word, scaled}
 use Rattle.theory.specs.Hyper.{Hyper, count_below}
 use Rattle.theory.specs.Kernel.{Preamble, CoPreamble}
 use Rattle.theory.specs.Runs.{led, Closed}
 use Rattle.theory.specs.Series.{AlmostBy, AlmostEquivalent}
 use Rattle.theory.specs.Theorems.{SameTable}
+use Rattle.theory.proofs.Lengths.{finitely_fewer, all_but_fewer}
 use Rattle.theory.proofs.Basics.{led_inside}
+use Rattle.theory.proofs.Equal.{led_alike, weighs_from}
 
 -- in the other order
 pub same_turned : (G : Group) (t u : Table G.Mean) → SameTable G t u → SameTable G u t
@@ -31,29 +32,19 @@ module _ (G : Group) (t u : Table G.Mean) (closed : Closed t) (e : SameTable G t
   there : (w : List ℕ) → Word u.letters w → Word t.letters w
   there w h = subst (λ s. Word s w) (sym e.letters) h
 
-  leads : (q : ℕ) (w : List ℕ) → q < t.states → Word t.letters w → led t q w ≡ led u q w
-  leads q [] l h = refl
-  leads q (a ∷ w) l h = leads (t.target q a) w (closed.target_inside q a l h.0) h.1 ∙ ap (λ p. led u p w) (e.target q a l h.0)
-
-  weighs : (q : ℕ) (w : List ℕ) → q < t.states → Word t.letters w → weight_from G t q w ≡ weight_from G u q w
-  weighs q [] l h = ap (λ b. within b G.one) (e.final q l)
-  weighs q (a ∷ w) l h =
-      ap (scaled G (t.weight q a)) (weighs (t.target q a) w (closed.target_inside q a l h.0) h.1)
-      ∙ ap (λ k. scaled G k (weight_from G u (t.target q a) w)) (e.weight q a l h.0)
-      ∙ ap (λ p. scaled G (u.weight q a) (weight_from G u p w)) (e.target q a l h.0)
-
   almost_by : (k : G.Mean) (q p : ℕ) → q < t.states → p < t.states → AlmostBy G t k q p → AlmostBy G u k q p
   almost_by k q p l m h =
       record {
-        from = h.from;
-        multiple =
-            record {
-              words =
-                  λ w word long.
-                  sym (weighs q w l (there w word))
-                  ∙ h.multiple.words w (there w word) long
-                  ∙ ap (scaled G k) (weighs p w m (there w word));
-            };
+        words =
+            all_but_fewer
+            (λ w word. (
+              there w word,
+              λ x.
+                  sym (weighs_from G t u closed e q w l (there w word))
+                  ∙ x
+                  ∙ ap (scaled G k) (weighs_from G t u closed e p w m (there w word)),
+            ))
+            h.words;
       }
 
   almost : (q p : ℕ) → q < t.states → p < t.states → AlmostEquivalent G t q p → AlmostEquivalent G u q p
@@ -62,23 +53,27 @@ module _ (G : Group) (t u : Table G.Mean) (closed : Closed t) (e : SameTable G t
   preamble : (q : ℕ) → Preamble t q → Preamble u q
   preamble q h =
       record {
-        words = (
-          h.words.0,
-          λ w word to.
-              h.words.1 w (there w word)
-              (leads t.start w closed.start_inside (there w word) ∙ ap (λ p. led u p w) e.start ∙ to),
-        );
+        words =
+            finitely_fewer
+            (λ w word to. (
+              there w word,
+              led_alike t u closed e.target t.start w closed.start_inside (there w word) ∙ ap (λ p. led u p w) e.start ∙ to,
+            ))
+            h.words;
       }
 
   co_preamble : (q : ℕ) → q < t.states → CoPreamble t q → CoPreamble u q
   co_preamble q l h =
       record {
-        words = (
-          h.words.0,
-          λ w word accepted.
-              h.words.1 w (there w word)
-              (e.final (led t q w) (led_inside t closed q w l (there w word)) ∙ ap u.final (leads q w l (there w word)) ∙ accepted),
-        );
+        words =
+            finitely_fewer
+            (λ w word accepted. (
+              there w word,
+              e.final (led t q w) (led_inside t closed q w l (there w word))
+                  ∙ ap u.final (led_alike t u closed e.target q w l (there w word))
+                  ∙ accepted,
+            ))
+            h.words;
       }
 
 module _ (G : Group) (t u h : Table G.Mean) (r : ℕ → ℕ) (f : ℕ → G.Mean) (closed : Closed t) (closed' : Closed u)
