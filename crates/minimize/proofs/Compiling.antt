@@ -7,7 +7,7 @@ use Rattle.tables.specs.Sheet.{mean_at}
 use Rattle.theory.specs.Series.{WeighAlikeFrom}
 use Rattle.theory.specs.Least.{Least}
 use Rattle.theory.specs.Hyper.{count_below}
-use Rattle.theory.proofs.Lengths.{by_length}
+use Rattle.theory.proofs.Lengths.{lengths_tell}
 use Rattle.theory.proofs.Basics.{almost_alike}
 use Rattle.theory.proofs.Minimal.{least_closed, least_is_minimal}
 use Rattle.theory.proofs.Determined.{least_is_determined}
@@ -101,7 +101,7 @@ promised K t m r lawful made =
       fewest =
           λ b closed alike.
           hyper_is_smallest G t l h b s f lawful made.least made.hyper closed alike;
-      lengths = λ n test. by_length n (λ w. test w ≡ true);
+      lengths = λ test. lengths_tell (λ w. test w ≡ true);
       canonical =
           λ u n p lawful' letters made'.
           let k = rows_table K (least_in u.letters n p) in

@@ -1,5 +1,5 @@
 -- What compiling a source comes to: the tables, lists and counts that it leaves, and what is promised of them. Assumes nothing.
-use Rattle.std.specs.Prelude.{◌≡◌, ℕ, ◌+◌, ◌-◌, ◌*◌, ◌<◌, ◌≤◌, ◌↔◌, Bool, true, false, cond, length, Ok, Err, Result, slice_index}
+use Rattle.std.specs.Prelude.{◌≡◌, ℕ, ◌+◌, ◌-◌, ◌*◌, ◌<◌, ◌≤◌, ◌↔◌, Bool, true, false, List, cond, length, Ok, Err, Result, slice_index}
 use Rattle.weights.specs.Group.{Kind}
 use Rattle.weights.specs.Refusal.{told, bare}
 use Rattle.weights.specs.declared.refusal.Refusal.{Refusal}
@@ -90,8 +90,8 @@ module _ {W : Type 0} (K : Kind W) where
     -- every table of the kind and the letters that weighs all words but those of some list as the source does has at least as many
     -- states as the hyper table
     pub fewest : (b : Table K.group.Mean) → Closed b → AlmostWeighAlike K.group t b → r.hyper ≤ b.states
-    -- finitely many words, infinitely many and all but finitely many are told by lengths as well as by lists
-    pub lengths : LengthsTell
+    -- whether finitely many words pass a test, infinitely many, or all but finitely many, is told by their lengths
+    pub lengths : (test : List ℕ → Bool) → LengthsTell (λ w. test w ≡ true)
     -- Any other source of the kind and the letters, wherever it was compiled: the least tables that are left are equal in count,
     -- targets, weights and marks exactly where both sources weigh every word alike.
     pub canonical :

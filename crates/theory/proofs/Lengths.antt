@@ -5,7 +5,8 @@ use Rattle.std.proofs.lemmas.Bool.{cases_eq, cases_lt}
 use Rattle.std.proofs.lemmas.List.{get_or-map, length-map}
 use Rattle.std.proofs.lemmas.List.Elements.{Contains-append_left, Contains-append_right}
 use Rattle.tables.specs.Table.{Word}
-use Rattle.theory.specs.Finitely.{FinitelyMany, InfinitelyMany, AllButFinitelyMany, ByLength}
+use Rattle.theory.specs.Finitely.{FinitelyMany, InfinitelyMany, AllButFinitelyMany}
+use Rattle.theory.specs.Theorems.{LengthsTell}
 
 -- each word of a list, after each letter below s
 after_letters : ℕ → List (List ℕ) → List (List ℕ)
@@ -112,8 +113,8 @@ module _ {s : ℕ} {P : List ℕ → Type 0} where
             ];
       }
 
-pub by_length : (s : ℕ) (P : List ℕ → Type 0) → ByLength s P
-by_length s P =
+pub lengths_tell : (P : List ℕ → Type 0) → LengthsTell P
+lengths_tell P s =
     record {
       finitely = (all_shorter, λ x. finitely_many x.0 x.1);
       infinitely = (some_longer, infinitely_many);

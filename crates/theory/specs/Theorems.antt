@@ -1,5 +1,5 @@
 -- What holds of least and hyper tables, over every group, and of finitely many words. Assumes nothing.
-use Rattle.std.specs.Prelude.{◌≡◌, ℕ, ◌-◌, ◌*◌, ◌<◌, ◌≤◌, ◌↔◌, Bool, true, List}
+use Rattle.std.specs.Prelude.{◌≡◌, ℕ, ◌-◌, ◌*◌, ◌<◌, ◌≤◌, ◌↔◌, List}
 use Rattle.weights.specs.Group.{Group}
 use Rattle.tables.specs.Table.{Table, Lawful, WeighAlike}
 use Rattle.theory.specs.Runs.{Closed}
@@ -37,10 +37,9 @@ pub record SameHyper (G : Group) (t h k : Table G.Mean) (r s : ℕ → ℕ) (f g
   pub representatives : (q : ℕ) → q < t.states → r q ≡ s q
   pub factors : (q : ℕ) → q < t.states → f q ≡ g q
 
--- whatever a test tells of words, over any alphabet: whether finitely many words pass it, infinitely many, or all but finitely many, is
--- told by their lengths
-abbrev pub LengthsTell : Type 0
-LengthsTell = (s : ℕ) (test : List ℕ → Bool) → ByLength s (λ w. test w ≡ true)
+-- over every alphabet, lengths tell whether a property is that of finitely many words, of infinitely many, or of all but finitely many
+abbrev pub LengthsTell : (List ℕ → Type 0) → Type 0
+LengthsTell P = (s : ℕ) → ByLength s P
 
 module _ (G : Group) where
   -- each least table is minimal

@@ -1,7 +1,6 @@
 // The theorems on words and on least and hyper tables, each the contract of a function of its own, over every property of words and
 // over every weight kind.
 ghost use Rattle.std.specs.Prelude.{ℕ, List};
-ghost use Rattle.theory.specs.Finitely.{ByLength};
 ghost use Rattle.theory.specs.Theorems.{LengthsTell, LeastIsMinimal, LeastIsDetermined, HyperAgrees, HyperIsSmallest, HyperIsDetermined};
 
 use weights::Weight;
@@ -11,12 +10,8 @@ trait Property {
     ghost holds: { List ℕ → Type 0 };
 }
 
-fn lengths_tell_of<P: Property>()
-    ensures { (s : ℕ) → ByLength s P.holds }
-{}
-
-fn lengths_tell()
-    ensures { LengthsTell }
+fn lengths_tell<P: Property>()
+    ensures { LengthsTell P.holds }
 {}
 
 fn least_is_minimal<W: Weight>()

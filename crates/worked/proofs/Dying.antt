@@ -8,7 +8,7 @@ use Rattle.tables.specs.Table.{Table, Word, scaled, weight_from}
 use Rattle.theory.specs.Kernel.{Kernel, Preamble}
 use Rattle.theory.specs.Hyper.{Hyper, count_below}
 use Rattle.theory.specs.Series.{AlmostBy}
-use Rattle.theory.proofs.Basics.{walked, weight_walked}
+use Rattle.theory.proofs.Basics.{walked, weight_walked, almost_multiple}
 use Rattle.theory.proofs.Search.{kernel_not_preamble}
 use Rattle.theory.proofs.Tests.{all_below, at_each}
 use Rattle.worked.proofs.Sink.{holds_fast, sinks, sunk, sink_kernel, other_preamble}
@@ -41,10 +41,8 @@ module _ (G : Group) (t h : Table G.Mean) (s n : ℕ) (x : Dying G t h s n) wher
 
   almost : (q : ℕ) → q < t.states → AlmostBy G t G.one q s
   almost q l =
-      record {
-        from = n;
-        multiple = record { words = λ w h long. gone q w l h long ∙ ap (scaled G G.one) (sym (gone s w x.inside h long)) };
-      }
+      almost_multiple {n = n}
+      (record { words = λ w h long. gone q w l h long ∙ ap (scaled G G.one) (sym (gone s w x.inside h long)) })
 
   -- state s alone is kernel
   kernel : Kernel t s

@@ -5,6 +5,7 @@ use Rattle.std.proofs.lemmas.List.{length-append}
 use Rattle.tables.specs.Table.{Table, Word}
 use Rattle.theory.specs.Runs.{led}
 use Rattle.theory.specs.Kernel.{Kernel, Preamble, CoKernel, CoPreamble}
+use Rattle.theory.proofs.Lengths.{finitely_many, infinitely_many}
 use Rattle.theory.proofs.Basics.{word_append, led_append}
 use Rattle.theory.proofs.Tests.{all_below, at_each}
 
@@ -41,27 +42,27 @@ module _ {M : Type 0} (t : Table M) (s : ℕ) where
     led_co_kernel some final q u h e =
         record {
           words =
-              λ n.
+              infinitely_many
+              (λ n.
               let z = zeros t.letters n some in (
                 u ++ z.0,
                 word_append t.letters u z.0 h z.1,
                 omega (arith, length-append u z.0, z.2),
                 ap t.final (led_append t q u z.0 ∙ ap (λ p. led t p z.0) e ∙ stays z.0 z.1) ∙ final,
-              );
+              ));
         }
 
     -- where it is not, a state that each word of n letters leads to s from is co-preamble
     pub sunk_co_preamble : t.final s ≡ false → (n q : ℕ) → sinks n q ≡ true → CoPreamble t q
     sunk_co_preamble other n q few =
         record {
-          words = (
-            n,
-            λ w h a.
-                elim (cases_lt (length w) n) [
-                  | inl short ↦ short
-                  | inr long ↦ absurd (both_ways (t.final s) other (sym (ap t.final (sunk n q w few h long)) ∙ a))
-                ],
-          );
+          words =
+              finitely_many n
+              (λ w h a.
+              elim (cases_lt (length w) n) [
+                | inl short ↦ short
+                | inr long ↦ absurd (both_ways (t.final s) other (sym (ap t.final (sunk n q w few h long)) ∙ a))
+              ]);
         }
 
     module _ (n : ℕ) (few : sinks n t.start ≡ true) where
@@ -69,20 +70,20 @@ module _ {M : Type 0} (t : Table M) (s : ℕ) where
       sink_kernel some =
           record {
             words =
-                λ m.
+                infinitely_many
+                (λ m.
                 let z = zeros t.letters (n + m) some in
-                (z.0, z.1, omega (arith, z.2), sunk n t.start z.0 few z.1 (omega (arith, z.2)));
+                (z.0, z.1, omega (arith, z.2), sunk n t.start z.0 few z.1 (omega (arith, z.2))));
           }
 
       pub other_preamble : (q : ℕ) → (q ≡ s → ⊥) → Preamble t q
       other_preamble q other =
           record {
-            words = (
-              n,
-              λ w h e.
-                  elim (cases_lt (length w) n) [
-                    | inl short ↦ short
-                    | inr long ↦ absurd (other (sym e ∙ sunk n t.start w few h long))
-                  ],
-            );
+            words =
+                finitely_many n
+                (λ w h e.
+                elim (cases_lt (length w) n) [
+                  | inl short ↦ short
+                  | inr long ↦ absurd (other (sym e ∙ sunk n t.start w few h long))
+                ]);
           }
