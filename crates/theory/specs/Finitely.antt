@@ -16,9 +16,9 @@ pub record AllButFinitelyMany (s : ℕ) (P : List ℕ → Type 0) : Type 0 where
   pub exceptions : List (List ℕ)
   pub others : (w : List ℕ) → Word s w → (Contains exceptions w → ⊥) → P w
 
--- An alphabet is finite, so lengths tell the same: a property is that of finitely many words where all of them are shorter than some
--- length, of infinitely many where there is one of each length or more, and of all but finitely many where all from some length on
--- have it.
+-- An alphabet is finite, so lengths tell the same. A property is one of finitely many words exactly where all of them are shorter than
+-- some length, of infinitely many exactly where for each length one of them is at least that long, and of all but finitely many
+-- exactly where all words from some length on have it.
 pub record ByLength (s : ℕ) (P : List ℕ → Type 0) : Type 0 where
   pub finitely : FinitelyMany s P ↔ ((n : ℕ) × ((w : List ℕ) → Word s w → P w → length w < n))
   pub infinitely : InfinitelyMany s P ↔ ((n : ℕ) → (w : List ℕ) × Word s w × (n ≤ length w) × P w)
