@@ -19,7 +19,8 @@ use Rattle.theory.specs.Series.{Equivalent, AlmostEquivalent}
 use Rattle.theory.specs.Push.{Earlier, Push}
 use Rattle.theory.specs.Least.{MetBefore}
 use Rattle.theory.specs.Kernel.{Kernel, CoKernel}
-use Rattle.theory.proofs.Basics.{scaled_one, led_inside, multiple_accepts}
+use Rattle.theory.proofs.Lengths.{infinitely_many}
+use Rattle.theory.proofs.Basics.{scaled_one, led_inside, multiple_accepts, almost_multiple, multiple_from}
 use Rattle.theory.proofs.Determined.Canonical.{Canonical}
 use Rattle.theory.proofs.Search.{final_push, push_unique, live_not_dead}
 use Rattle.theory.proofs.Tests.{all_below, all_both, at_each, at_both, Coded, same, same_there}
@@ -124,12 +125,14 @@ module _ (G : Group) (t : Table G.Mean) (x : Gathered G t) where
   kernel q l =
       record {
         words =
-            λ m.
-            (turns m 0 q, turns_word m 0 q, turns_long m 0 q, ap (λ p. led t p (turns m 0 q)) x.start ∙ turns_there m 0 q x.some_state l);
+            infinitely_many
+            (λ m.
+            (turns m 0 q, turns_word m 0 q, turns_long m 0 q, ap (λ p. led t p (turns m 0 q)) x.start ∙ turns_there m 0 q x.some_state l));
       }
 
   co_kernel : (q : ℕ) → q < n → CoKernel t q
-  co_kernel q l = record { words = λ m. (turns m q 0, turns_word m q 0, turns_long m q 0, accepted m q l) }
+  co_kernel q l =
+      record { words = infinitely_many (λ m. (turns m q 0, turns_word m q 0, turns_long m q 0, accepted m q l)) }
 
   not_dead : (q : ℕ) → q < n → Dead t q → ⊥
   not_dead q l d =
@@ -138,16 +141,17 @@ module _ (G : Group) (t : Table G.Mean) (x : Gathered G t) where
   -- and no two are almost-equivalent
   almost_apart : (q p : ℕ) → q < n → p < n → AlmostEquivalent G t q p → q ≡ p
   almost_apart q p l k e =
-      let m = e.by.from in
+      let from = multiple_from e.by in
+      let m = from.from in
       let w = turns m q 0 in
       let h = turns_word m q 0 in
-      let alike = multiple_accepts G t t q p e.by.multiple w h (turns_long m q 0) in
+      let alike = multiple_accepts G t t q p from.multiple w h (turns_long m q 0) in
       far_apart n m q p l k
       (ap (λ d. (p + d) % n) (sym (turns_count m q 0)) ∙ accepted_at p w k h (sym alike ∙ accepted m q l))
 
   apart : (q p : ℕ) → q < n → p < n → Equivalent G t q p → q ≡ p
   apart q p l k e =
-      almost_apart q p l k (record { factor = e.factor; by = record { from = 0; multiple = e.by } })
+      almost_apart q p l k (record { factor = e.factor; by = almost_multiple e.by })
 
   -- the way back to state 0 weighs one, and no shorter word is accepted
   light : (q : ℕ) (o : Option G.Mean) → 0 < q → q < n → scaled G (t.weight q 0) o ≡ o
