@@ -25,6 +25,7 @@ use Rattle.minimize.specs.Marking.{Written}
 use Rattle.minimize.specs.declared.compiler.Report.{Report}
 use Rattle.minimize.proofs.HyperTable.{hyper_table}
 use Rattle.minimize.proofs.SameLeast.{same_left, same_held}
+use Rattle.minimize.proofs.Viewing.{view_same, sheet_alike}
 
 -- a mark that is added up is made of flags
 flag_of : (v x : ℕ) → x ≤ 1 → cond {A = ℕ} (x == 1) v 0 ≡ v * x
@@ -109,6 +110,10 @@ promised K t m r lawful made =
             λ held. same.0 (same_held K t u m r n p letters made made' held),
             λ alike. same_left K t u m r n p letters made made' (same.1 alike),
           );
+      least_viewed = view_same K (least_in t.letters m r) made.least_laid;
+      hyper_viewed = view_same K (hyper_in t.letters m r) made.hyper_laid;
+      least_sheet = sheet_alike K (least_in t.letters m r) made.least_laid;
+      hyper_sheet = sheet_alike K (hyper_in t.letters m r) made.hyper_laid;
     }
 
 -- every list of calls follows its sketch

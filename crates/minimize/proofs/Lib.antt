@@ -14,6 +14,7 @@ pub mod HyperTable
 pub mod Redirecting
 pub mod Remarking
 pub mod SameLeast
+pub mod Viewing
 pub mod Compiling
 pub mod Filling
 pub mod DrawnBook

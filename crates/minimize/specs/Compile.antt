@@ -5,7 +5,7 @@ use Rattle.weights.specs.Refusal.{told, bare}
 use Rattle.weights.specs.declared.refusal.Refusal.{Refusal}
 use Rattle.tables.specs.Table.{Table, Lawful, WeighAlike}
 use Rattle.tables.specs.Book.{Contents, laid}
-use Rattle.tables.specs.Sheet.{mean_at}
+use Rattle.tables.specs.Sheet.{mean_at, sheet_table}
 use Rattle.theory.specs.Runs.{Closed}
 use Rattle.theory.specs.Series.{WeighAlikeFrom, AlmostWeighAlike}
 use Rattle.theory.specs.Least.{Least}
@@ -15,6 +15,7 @@ use Rattle.theory.specs.Theorems.{LengthsTell, Minimal, SameTable, SameHyper}
 use Rattle.minimize.specs.Lists.{ListsFollow}
 use Rattle.minimize.specs.Rows.{rows_table, Laid}
 use Rattle.minimize.specs.Memories.{Memories, Room, SameLengths}
+use Rattle.minimize.specs.View.{view_table}
 use Rattle.minimize.specs.declared.compiler.Report.{Report}
 
 -- a mark is 1 for final, 2 for kernel and 4 for co-kernel, added up
@@ -97,6 +98,12 @@ module _ {W : Type 0} (K : Kind W) where
     pub canonical :
         (u : Table K.group.Mean) (n : Memories W) (p : Report) → Lawful u → u.letters ≡ t.letters → Compiled u n p →
         SameLeast K t.letters m r n p ↔ WeighAlike K.group t u
+    -- Both tables can be read where they lie: a view over one means just that table, and a sheet, which has one state more, weighs
+    -- every word as it does, of a table that has so few states that a sheet can be made.
+    pub least_viewed : SameTable K.group (view_table K (least_in t.letters m r)) (rows_table K (least_in t.letters m r))
+    pub hyper_viewed : SameTable K.group (view_table K (hyper_in t.letters m r)) (rows_table K (hyper_in t.letters m r))
+    pub least_sheet : r.least ≤ 4095 → WeighAlike K.group (sheet_table K (least_in t.letters m r)) (rows_table K (least_in t.letters m r))
+    pub hyper_sheet : r.hyper ≤ 4095 → WeighAlike K.group (sheet_table K (hyper_in t.letters m r)) (rows_table K (hyper_in t.letters m r))
 
   -- What compiling answers, by what its memories held before and hold after: where they have room, a report, and tables, lists and
   -- counts are as defined and promised; else it refuses with 6, and all is left as it was.

@@ -1,6 +1,7 @@
 pub mod Rows
 pub mod Slices
 pub mod Memories
+pub mod View
 pub mod Compile
 pub mod Steps
 pub mod Group

@@ -14,10 +14,12 @@ mod memories;
 mod push;
 mod redirect;
 mod rows;
+mod view;
 mod watch;
 mod whole;
 
 pub use compiler::{Report, compile};
 pub use memories::{StateMemory, TableMemory, WorkMemory};
+pub use view::TableView;
 pub use watch::{Step, Unwatched, Watch, compile_watched};
 pub use whole::draw_and_compile;
