@@ -1,1 +1,2 @@
 mod Rereading
+mod LeastSource

@@ -7,20 +7,23 @@ use weights::{Check, Coded, Plain, Refusal, Weight, Wheel};
 
 // What compiling leaves.
 #[derive(Drop)]
-struct Left<W> {
-    report: Report,
-    targets: Vec<u16>,
-    weights: Vec<W>,
-    marks: Vec<u8>,
-    hyper_targets: Vec<u16>,
-    hyper_weights: Vec<W>,
-    hyper_marks: Vec<u8>,
-    representatives: Vec<u16>,
-    factors: Vec<W>,
+pub(crate) struct Left<W> {
+    pub(crate) report: Report,
+    pub(crate) targets: Vec<u16>,
+    pub(crate) weights: Vec<W>,
+    pub(crate) marks: Vec<u8>,
+    pub(crate) hyper_targets: Vec<u16>,
+    pub(crate) hyper_weights: Vec<W>,
+    pub(crate) hyper_marks: Vec<u8>,
+    pub(crate) representatives: Vec<u16>,
+    pub(crate) factors: Vec<W>,
 }
 
 // Compiles a source in memories of just the size that is needed.
-fn compile_exactly<W: Weight, S: Source<W>>(rt: &HostRuntime, source: &S) -> Result<Left<W>, Fail> {
+pub(crate) fn compile_exactly<W: Weight, S: Source<W>>(
+    rt: &HostRuntime,
+    source: &S,
+) -> Result<Left<W>, Fail> {
     let states = usize::from(source.states());
     let places = 1 + states * usize::from(source.letters());
     let mut targets = vec![in rt.alloc(); 0u16; places]?;
@@ -68,7 +71,7 @@ fn compile_exactly<W: Weight, S: Source<W>>(rt: &HostRuntime, source: &S) -> Res
 }
 
 // A report of a least table, a hyper table and kernel states, with the agreement length that goes with them.
-fn report(least: u16, hyper: u16, kernel: u16) -> Report {
+pub(crate) fn report(least: u16, hyper: u16, kernel: u16) -> Report {
     Report {
         least,
         hyper,
@@ -88,11 +91,11 @@ fn codes<W: Coded>(rt: &HostRuntime, elements: &[W]) -> Result<Vec<u16>, Fail> {
 
 // The memories of four states over two letters: the fork, whose states 1 and 2 weigh all words but the empty one alike, with
 // factor 5, where the last arc of state 2 weighs `last`.
-const FORK_TARGETS: [u16; 9] = [0, 1, 2, 3, 3, 3, 3, 3, 3];
+pub(crate) const FORK_TARGETS: [u16; 9] = [0, 1, 2, 3, 3, 3, 3, 3, 3];
 
-const FORK_MARKS: [u8; 4] = [0, 0, 1, 1];
+pub(crate) const FORK_MARKS: [u8; 4] = [0, 0, 1, 1];
 
-fn fork_weights(last: u8) -> [Check; 9] {
+pub(crate) fn fork_weights(last: u8) -> [Check; 9] {
     [7, 1, 1, 2, 4, 5, last, 3, 1].map(Check)
 }
 
@@ -375,5 +378,49 @@ fn calls_are_drawn_and_compiled(rt: HostRuntime) -> Result<(), Fail> {
     assert_eq!(rt; least_weights[0].code(), 21);
     assert_eq!(rt; least_weights[1].code(), 1);
     assert_eq!(rt; least_weights[2].code(), 5);
+    Ok(())
+}
+
+// A book over no memory has no room for a state: what is compiled is the off state alone.
+#[test]
+fn calls_on_no_memory_are_compiled(rt: HostRuntime) -> Result<(), Fail> {
+    let mut made = [Made::new(Call::State { accepting: true })];
+    let mut least_targets = [9u16; 2];
+    let mut least_weights = [Check(9); 2];
+    let mut least_marks = [9u8; 1];
+    let mut hyper_targets = [9u16; 2];
+    let mut hyper_weights = [Check(9); 2];
+    let mut hyper_marks = [9u8; 1];
+    let drawn = draw_and_compile(
+        &mut made,
+        TableMemory {
+            targets: &mut [],
+            weights: &mut [],
+            marks: &mut [],
+        },
+        TableMemory {
+            targets: &mut least_targets,
+            weights: &mut least_weights,
+            marks: &mut least_marks,
+        },
+        TableMemory {
+            targets: &mut hyper_targets,
+            weights: &mut hyper_weights,
+            marks: &mut hyper_marks,
+        },
+        StateMemory {
+            representatives: &mut [9u16],
+            factors: &mut [Check(9)],
+        },
+        WorkMemory {
+            numbers: &mut [9u16; 24],
+            elements: &mut [Check(9); 6],
+        },
+    );
+    assert_eq!(rt; drawn, Ok(report(1, 1, 1)));
+    assert_eq!(rt; made[0].answer, Err(Refusal::NoRoom));
+    assert_eq!(rt; least_targets, [0, 0]);
+    assert_eq!(rt; least_weights.map(|weight| weight.code()), [1, 1]);
+    assert_eq!(rt; least_marks, [2]);
     Ok(())
 }

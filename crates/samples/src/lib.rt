@@ -18,7 +18,10 @@ mod lists;
 mod owner;
 #[cfg(test)]
 mod piles;
+mod reading;
 #[cfg(test)]
 mod sheets;
+#[cfg(test)]
+mod viewed;
 #[cfg(test)]
 mod written;

@@ -1,0 +1,64 @@
+// The tables that compiling left, read as views where they lie.
+use crate::compiled::{FORK_MARKS, FORK_TARGETS, compile_exactly, fork_weights, report};
+use drafts::write_draft;
+use minimize::TableView;
+use std::test::Fail;
+use tables::{Sheet, Source, weigh};
+use weights::{Check, Coded};
+
+// The fork in which nothing merges: its hyper table has no off state, weighs words, has a draft file of its own, and is least.
+#[test]
+fn a_hyper_table_is_read_as_a_view(rt: HostRuntime) -> Result<(), Fail> {
+    let weights = fork_weights(11);
+    let sheet = Sheet::new(&FORK_TARGETS, &weights, &FORK_MARKS, 4, 2)?;
+    let made = compile_exactly(&rt, &sheet)?;
+    let hyper = TableView::new(
+        &made.hyper_targets,
+        &made.hyper_weights,
+        &made.hyper_marks,
+        made.report.hyper,
+        2,
+    );
+    assert_eq!(rt; hyper.states(), 4);
+    assert_eq!(rt; weigh(&hyper, &[0, 1])?.ok_or("none")?.code(), 28);
+    assert!(rt; weigh(&hyper, &[0])?.is_none());
+    let mut bytes = [0u8; 108];
+    assert_eq!(rt; write_draft(&hyper, &mut bytes), Ok(108));
+    let drawn = b"\x01\0\x02\x01\x02\
+\x02\0\x01\0\x02\0\x01\0\x02\0\x01\x01\x02\0\x01\x01\
+\x03\0\x07\0\0\0\0\x01\0\x02\
+\x03\0\x07\0\0\x01\0\x02\0\x01\
+\x03\0\x07\0\x01\0\0\x03\0\x01\
+\x03\0\x07\0\x01\x01\0\x03\0\x02\
+\x03\0\x07\0\x02\0\0\x03\0\x05\
+\x03\0\x07\0\x02\x01\0\x03\0\x0b\
+\x03\0\x07\0\x03\0\0\x03\0\x03\
+\x03\0\x07\0\x03\x01\0\x03\0\x01\
+\x04\0\x04\0\0\0\x07";
+    assert_eq!(rt; bytes, *drawn);
+    let again = compile_exactly(&rt, &hyper)?;
+    assert_eq!(rt; again.report, report(4, 4, 1));
+    assert!(rt; again.targets.starts_with(&[0, 1, 2, 3, 3, 3, 3, 3, 3]));
+    Ok(())
+}
+
+// Whatever a view holds, it has a state and a letter at least, and leads to states of its own.
+#[test]
+fn a_view_over_nothing(rt: HostRuntime) -> Result<(), Fail> {
+    let none: [Check; 0] = [];
+    let least = TableView::new(&[], &none, &[], 0, 0);
+    assert_eq!(rt; least.states(), 1);
+    assert_eq!(rt; least.letters(), 1);
+    assert_eq!(rt; least.target(0, 0), Some(0));
+    assert_eq!(rt; least.target(0, 1), None);
+    assert_eq!(rt; least.is_final(0), Some(false));
+    let largest = TableView::new(&[7u16, 4096], &none, &[2u8, 3], 4097, 255);
+    assert_eq!(rt; largest.states(), 4096);
+    assert_eq!(rt; largest.letters(), 64);
+    assert_eq!(rt; largest.start(), 7);
+    assert_eq!(rt; largest.target(0, 0), Some(4095));
+    assert_eq!(rt; largest.is_final(0), Some(false));
+    assert_eq!(rt; largest.is_final(1), Some(true));
+    assert_eq!(rt; largest.weight(4095, 63).ok_or("none")?.code(), 1);
+    Ok(())
+}
