@@ -1,7 +1,7 @@
-ghost use Rattle.std.specs.Prelude.{◌≡◌};
-ghost use Rattle.tables.specs.Book.{laid};
-ghost use Rattle.tables.specs.Sheet.{mean_at};
-ghost use Rattle.tables.specs.Table.{has_arc};
+ghost use Rattle.std.specs.Prelude.{◌≡◌, true, Some, slice_get};
+ghost use Rattle.tables.specs.Book.{laid, place};
+ghost use Rattle.tables.specs.Sheet.{width, mean_at};
+ghost use Rattle.tables.specs.Table.{has_arc, meant, weight_at};
 ghost use Rattle.minimize.specs.View.{viewed, seen_to, view_table, view_lawful};
 
 use crate::rows::{NONE, place};
@@ -56,7 +56,8 @@ impl<'a, W: Weight> TableView<'a, W> {
 
     // With which weight the place leads.
     fn led_by(&self, at: usize) -> W
-        ensures { W.kind.mean result ≡ mean_at W.kind (viewed self.now).weights at }
+        ensures meaning { W.kind.mean result ≡ mean_at W.kind (viewed self.now).weights at }
+        ensures element { (x : W) → slice_get (viewed self.now).weights at ≡ Some x → result ≡ x }
     {
         get_or(self.weights, at, &W::one())
     }
@@ -79,7 +80,11 @@ impl<W: Weight> Source<W> for TableView<'_, W> {
         self.led_to(0)
     }
 
-    fn start_weight(&self) -> W {
+    // The element at place 0.
+    fn start_weight(&self) -> W
+        ensures meaning { W.kind.mean result ≡ (view_table W.kind (viewed self.now)).start_weight }
+        ensures element { (x : W) → slice_get (viewed self.now).weights 0 ≡ Some x → result ≡ x }
+    {
         self.led_by(0)
     }
 
@@ -94,7 +99,11 @@ impl<W: Weight> Source<W> for TableView<'_, W> {
         Some(self.led_to(place(self.letters(), state, letter)))
     }
 
-    fn weight(&self, state: u16, letter: u8) -> Option<W> {
+    // The element at the arc's place.
+    fn weight(&self, state: u16, letter: u8) -> Option<W>
+        ensures meaning { meant W.kind result ≡ weight_at (view_table W.kind (viewed self.now)) state letter }
+        ensures element { (x : W) → has_arc (view_table W.kind (viewed self.now)) state letter ≡ true → slice_get (viewed self.now).weights (place (width (viewed self.now)) state letter) ≡ Some x → result ≡ Some x }
+    {
         if !self.has_arc(state, letter) {
             return None;
         }

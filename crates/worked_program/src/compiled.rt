@@ -1,8 +1,8 @@
 use crate::memories::Memories;
-use minimize::{Report, StateMemory, TableMemory, WorkMemory, compile};
+use minimize::{Report, StateMemory, TableMemory, TableView, WorkMemory, compile};
 use std::alloc::Global;
-use tables::{Sheet, Source};
-use weights::{Refusal, Weight};
+use tables::Source;
+use weights::Weight;
 
 // What compiling a source left.
 #[derive(Drop)]
@@ -58,11 +58,11 @@ impl<W: Weight> Compiled<W> {
         })
     }
 
-    pub(crate) fn least_table(&self) -> Result<Sheet<'_, W>, Refusal> {
+    pub(crate) fn least_table(&self) -> TableView<'_, W> {
         self.least.table(self.report.least, self.letters)
     }
 
-    pub(crate) fn hyper_table(&self) -> Result<Sheet<'_, W>, Refusal> {
+    pub(crate) fn hyper_table(&self) -> TableView<'_, W> {
         self.hyper.table(self.report.hyper, self.letters)
     }
 }

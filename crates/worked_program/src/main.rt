@@ -32,7 +32,7 @@ fn try_source<W: Coded, S: Source<W>>(
 ) -> anyhow::Result<()> {
     let compiled = Compiled::of(source, rt.alloc())?;
     print_compiled(rt, source.states(), &compiled)?;
-    print_words(rt, source, &compiled.hyper_table()?, words)?;
+    print_words(rt, source, &compiled.hyper_table(), words)?;
     println!(rt; "")?;
     Ok(())
 }

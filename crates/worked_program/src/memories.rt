@@ -1,6 +1,7 @@
+use minimize::TableView;
 use std::alloc::{AllocError, Global};
 use tables::{Made, Sheet, draw, drawn_size};
-use weights::{Refusal, Weight};
+use weights::Weight;
 
 // The three memories of a table.
 #[derive(Drop)]
@@ -32,8 +33,8 @@ impl<W: Weight> Memories<W> {
         draw(&mut self.targets, &mut self.weights, &mut self.marks, list)
     }
 
-    // The table that compiling left. A sheet adds an off state, which no arc leads to.
-    pub(crate) fn table(&self, states: u16, letters: u8) -> Result<Sheet<'_, W>, Refusal> {
-        Sheet::new(&self.targets, &self.weights, &self.marks, states, letters)
+    // The table of so many states and letters that compiling left.
+    pub(crate) fn table(&self, states: u16, letters: u8) -> TableView<'_, W> {
+        TableView::new(&self.targets, &self.weights, &self.marks, states, letters)
     }
 }

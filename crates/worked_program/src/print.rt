@@ -30,7 +30,7 @@ fn print_arcs<W: Coded, S: Source<W>>(
 
 // Prints the least table, with the mark, the representative and the factor of each state.
 fn print_least<W: Coded>(rt: &HostRuntime, compiled: &Compiled<W>) -> anyhow::Result<()> {
-    let table = compiled.least_table()?;
+    let table = compiled.least_table();
     let states = compiled.report.least;
     println!(rt; "  least table")?;
     print_start(rt, &table)?;
@@ -47,7 +47,7 @@ fn print_least<W: Coded>(rt: &HostRuntime, compiled: &Compiled<W>) -> anyhow::Re
 
 // Prints the hyper table, with the mark of each state.
 fn print_hyper<W: Coded>(rt: &HostRuntime, compiled: &Compiled<W>) -> anyhow::Result<()> {
-    let table = compiled.hyper_table()?;
+    let table = compiled.hyper_table();
     let states = compiled.report.hyper;
     println!(rt; "  hyper table")?;
     print_start(rt, &table)?;
