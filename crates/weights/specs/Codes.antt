@@ -43,9 +43,13 @@ abbrev pub check_codes : Codes Check
 check_codes =
     record { number = 1; element = λ c. within (is_unit c) (record { 0 = c % 256 }); code_of = λ x. number_of x.0 }
 
+-- the codes of a kind of k places, of which each element is stored as one number: a place is its own code
+abbrev pub place_codes : {E : Type 0} → ℕ → ℕ → (ℕ → E) → (E → ℕ) → Codes E
+place_codes number k stored read =
+    record { number = number; element = λ c. within (nat_lt c k) (stored c); code_of = λ x. read x % k }
+
 abbrev pub wheel_codes : Codes Wheel
-wheel_codes = record { number = 2; element = λ c. within (nat_lt c 720) (record { 0 = c }); code_of = λ x. x.0 % 720 }
+wheel_codes = place_codes 2 720 (λ c. record { 0 = c }) (λ x. x.0)
 
 abbrev pub beam_wheel_codes : Codes BeamWheel
-beam_wheel_codes =
-    record { number = 3; element = λ c. within (nat_lt c 1440) (record { 0 = c }); code_of = λ x. x.0 % 1440 }
+beam_wheel_codes = place_codes 3 1440 (λ c. record { 0 = c }) (λ x. x.0)
