@@ -11,20 +11,30 @@ mod reading;
 mod tally;
 mod trial;
 
-use anyhow::bail;
+use anyhow::{Context, bail};
 use harm::DAMAGES;
-use kind::Kind;
 use std::env;
 use tally::{NUMBERS, Row, Tally};
 use trial::{MEMORY, trial};
 
 fn print_row(rt: &HostRuntime, name: &str, row: Row) -> anyhow::Result<()> {
     let files = row.files();
-    let listed = row.get(0);
-    print!(rt; "{name:<34}{files:>8}{listed:>8}")?;
+    print!(rt; "{name:<34}{files:>8}")?;
+    for count in row.counts() {
+        print!(rt; "{count:>8}")?;
+    }
+    println!(rt; "")?;
+    Ok(())
+}
+
+fn print_heading(rt: &HostRuntime) -> anyhow::Result<()> {
+    print!(rt; "{:<34}{:>8}", "", "files")?;
     for number in NUMBERS {
-        let refused = row.get(number);
-        print!(rt; "{refused:>8}")?;
+        let heading = match number {
+            0 => String::from_str(rt.alloc(), "listed")?,
+            _ => format!(in rt.alloc(); "no. {number}")?,
+        };
+        print!(rt; "{heading:>8}")?;
     }
     println!(rt; "")?;
     Ok(())
@@ -32,20 +42,15 @@ fn print_row(rt: &HostRuntime, name: &str, row: Row) -> anyhow::Result<()> {
 
 // Prints the counts.
 fn print_counts(rt: &HostRuntime, tally: &Tally) -> anyhow::Result<()> {
-    print!(rt; "{:<34}{:>8}{:>8}", "", "files", "listed")?;
-    for number in NUMBERS {
-        let heading = format!(in rt.alloc(); "no. {number}")?;
-        print!(rt; "{heading:>8}")?;
-    }
-    println!(rt; "")?;
+    print_heading(rt)?;
     print_row(rt, "all", tally.all)?;
-    print_row(rt, "plain", tally.of_kind(Kind::Plain))?;
-    print_row(rt, "check", tally.of_kind(Kind::Check))?;
-    print_row(rt, "wheel", tally.of_kind(Kind::Wheel))?;
-    print_row(rt, "beam wheel", tally.of_kind(Kind::BeamWheel))?;
+    print_row(rt, "plain", tally.plain)?;
+    print_row(rt, "check", tally.check)?;
+    print_row(rt, "wheel", tally.wheel)?;
+    print_row(rt, "beam wheel", tally.beam_wheel)?;
     print_row(rt, "undamaged", tally.undamaged)?;
-    for (damage, name) in DAMAGES {
-        print_row(rt, name, tally.of_damage(damage))?;
+    for ((_, name), row) in DAMAGES.iter().zip(tally.damages) {
+        print_row(rt, name, row)?;
     }
     let smaller = tally.smaller;
     let short = tally.short;
@@ -58,7 +63,10 @@ fn print_counts(rt: &HostRuntime, tally: &Tally) -> anyhow::Result<()> {
 fn arguments(rt: &HostRuntime) -> anyhow::Result<(u32, u32)> {
     let mut numbers = [4000u32, 0];
     for (number, text) in numbers.iter_mut().zip(env::args(rt)?.skip(1)) {
-        *number = text.as_str().parse::<u32>().unwrap_or(0);
+        *number = text
+            .as_str()
+            .parse::<u32>()
+            .context(format_args!("reading {text:?}"))?;
     }
     let [count, first] = numbers;
     Ok((count, first))

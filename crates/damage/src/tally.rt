@@ -1,28 +1,35 @@
-use crate::harm::Damage;
+use crate::harm::{DAMAGES, Damage};
 use crate::kind::Kind;
+use anyhow::{Result, bail};
 
-// The numbers by which a file may be refused.
-pub(crate) const NUMBERS: [u8; 8] = [1, 2, 3, 4, 5, 6, 7, 10];
+// What a row counts: files that were listed, 0, and files that were refused with each number by which a file may be.
+pub(crate) const NUMBERS: [u8; 9] = [0, 1, 2, 3, 4, 5, 6, 7, 10];
 
-// How often files were listed, at 0, and refused with each number.
+// How often files were answered by each of the numbers, in their order.
 #[derive(Clone, Copy)]
 pub(crate) struct Row {
-    counts: [u64; 11],
+    counts: [u64; 9],
 }
 
 impl Row {
-    pub(crate) fn new() -> Row {
-        Row { counts: [0; 11] }
+    fn new() -> Row {
+        Row { counts: [0; 9] }
     }
 
-    fn add(&mut self, number: u8) {
-        if let Some(count) = self.counts.get_mut(usize::from(number)) {
-            *count = count.saturating_add(1);
+    // Counts a file. A number that no file is to be answered by is an error.
+    fn add(&mut self, number: u8) -> Result<()> {
+        let place = NUMBERS.iter().position(|other| *other == number);
+        match self.counts.get_mut(place.unwrap_or(NUMBERS.len())) {
+            Some(count) => {
+                *count = count.saturating_add(1);
+                Ok(())
+            },
+            None => bail!("no file may be refused with {number}"),
         }
     }
 
-    pub(crate) fn get(&self, number: u8) -> u64 {
-        self.counts.get(usize::from(number)).copied().unwrap_or(0)
+    pub(crate) fn counts(&self) -> [u64; 9] {
+        self.counts
     }
 
     pub(crate) fn files(&self) -> u64 {
@@ -38,8 +45,12 @@ impl Row {
 pub(crate) struct Tally {
     pub(crate) all: Row,
     pub(crate) undamaged: Row,
-    kinds: [Row; 4],
-    damages: [Row; 13],
+    pub(crate) plain: Row,
+    pub(crate) check: Row,
+    pub(crate) wheel: Row,
+    pub(crate) beam_wheel: Row,
+    // in the order of `DAMAGES`
+    pub(crate) damages: [Row; 13],
     // listings of a hyper table with fewer states than the least one
     pub(crate) smaller: u64,
     // memories too short for a text
@@ -51,44 +62,43 @@ impl Tally {
         Tally {
             all: Row::new(),
             undamaged: Row::new(),
-            kinds: [Row::new(); 4],
+            plain: Row::new(),
+            check: Row::new(),
+            wheel: Row::new(),
+            beam_wheel: Row::new(),
             damages: [Row::new(); 13],
             smaller: 0,
             short: 0,
         }
     }
 
-    pub(crate) fn of_kind(&self, kind: Kind) -> Row {
-        self.kinds.get(kind as usize).copied().unwrap_or(Row::new())
-    }
-
-    pub(crate) fn of_damage(&self, damage: Damage) -> Row {
-        self.damages
-            .get(damage as usize)
-            .copied()
-            .unwrap_or(Row::new())
-    }
-
     // Counts a file once for each kind of damage done to it.
-    pub(crate) fn add(&mut self, kind: Kind, damages: &[Damage], number: u8) {
-        self.all.add(number);
+    pub(crate) fn add(&mut self, kind: Kind, damages: &[Damage], number: u8) -> Result<()> {
+        self.all.add(number)?;
         if damages.is_empty() {
-            self.undamaged.add(number);
+            self.undamaged.add(number)?;
         }
-        if let Some(row) = self.kinds.get_mut(kind as usize) {
-            row.add(number);
+        match kind {
+            Kind::Plain => self.plain.add(number)?,
+            Kind::Check => self.check.add(number)?,
+            Kind::Wheel => self.wheel.add(number)?,
+            Kind::BeamWheel => self.beam_wheel.add(number)?,
         }
         for (place, damage) in damages.iter().enumerate() {
-            let is_counted = match damages.get(..place) {
-                Some(earlier) => earlier.contains(damage),
-                None => false,
-            };
-            if is_counted {
-                continue;
+            // one that is done twice is counted once
+            if damages.iter().position(|other| *other == *damage) == Some(place) {
+                self.add_damage(*damage, number)?;
             }
-            if let Some(row) = self.damages.get_mut(*damage as usize) {
-                row.add(number);
-            }
+        }
+        Ok(())
+    }
+
+    // Counts a file in the row of a damage. One that `DAMAGES` lacks is an error.
+    fn add_damage(&mut self, damage: Damage, number: u8) -> Result<()> {
+        let place = DAMAGES.iter().position(|(other, _)| *other == damage);
+        match self.damages.get_mut(place.unwrap_or(DAMAGES.len())) {
+            Some(row) => row.add(number),
+            None => bail!("a kind of damage has no row"),
         }
     }
 }

@@ -3,10 +3,12 @@ use crate::harm::{damaged_file, drawn_damages};
 use crate::listing::Wanted;
 use crate::reading::kind_of;
 use crate::tally::Tally;
+use anyhow::bail;
 use listings::hyper_listing;
 use random::Random;
 use std::alloc::{AllocError, Global};
 use std::fmt;
+use weights::Refusal;
 
 // The shortest memory that is taken for a text.
 const SHORTEST: u16 = 32_768;
@@ -72,7 +74,7 @@ pub(crate) fn trial(
             random.between(0, SHORTEST)
         };
         tally.short = tally.short.saturating_add(1);
-        let difference = short_difference(&file, usize::from(length), memory, filler);
+        let difference = short_difference(&file, usize::from(length), memory, filler)?;
         if difference.is_some() {
             return Ok(difference);
         }
@@ -83,11 +85,19 @@ pub(crate) fn trial(
         usize::from(random.between(SHORTEST, MEMORY))
     };
     let wanted = Wanted::of(&file, alloc)?;
-    tally.add(kind_of(&file), &damages, wanted.number);
+    tally.add(kind_of(&file), &damages, wanted.number)?;
     if wanted.is_smaller {
         tally.smaller = tally.smaller.saturating_add(1);
     }
-    Ok(text_difference(&file, length, memory, filler, wanted.text.as_bytes(), alloc)?)
+    text_difference(&file, length, memory, filler, wanted.text.as_bytes(), alloc)
+}
+
+// Lists a file in so many bytes of the memory.
+fn listed(file: &[u8], length: usize, memory: &mut [u8]) -> anyhow::Result<Result<usize, Refusal>> {
+    match memory.get_mut(..length) {
+        Some(out) => Ok(hyper_listing(file, out)),
+        None => bail!("no memory of {length} bytes"),
+    }
 }
 
 // A memory that is too short is refused with 6 and not written.
@@ -96,22 +106,18 @@ fn short_difference(
     length: usize,
     memory: &mut [u8],
     filler: u8,
-) -> Option<Difference> {
-    let answer = match memory.get_mut(..length) {
-        Some(out) => hyper_listing(file, out),
-        None => return None,
-    };
-    let number = match answer {
+) -> anyhow::Result<Option<Difference>> {
+    let number = match listed(file, length, memory)? {
         Ok(_) => 0,
         Err(refusal) => refusal.number(),
     };
     if number != 6 {
-        return Some(Difference::Answer {
+        return Ok(Some(Difference::Answer {
             listed: number,
             read: 6,
-        });
+        }));
     }
-    written_difference(memory, 0, filler)
+    Ok(written_difference(memory, 0, filler))
 }
 
 // The memory is to hold the text and then what it held before.
@@ -122,12 +128,8 @@ fn text_difference(
     filler: u8,
     text: &[u8],
     alloc: Global,
-) -> Result<Option<Difference>, AllocError> {
-    let answer = match memory.get_mut(..length) {
-        Some(out) => hyper_listing(file, out),
-        None => return Ok(None),
-    };
-    let size = match answer {
+) -> anyhow::Result<Option<Difference>> {
+    let size = match listed(file, length, memory)? {
         Ok(size) => size,
         Err(refusal) => {
             return Ok(Some(Difference::Answer {
@@ -136,9 +138,11 @@ fn text_difference(
             }));
         },
     };
-    let listed = memory.get(..size).unwrap_or(&[]);
-    if listed != text {
-        return Ok(Some(line_difference(listed, text, alloc)?));
+    let Some(written) = memory.get(..size) else {
+        bail!("a text of {size} bytes");
+    };
+    if written != text {
+        return Ok(Some(line_difference(written, text, alloc)?));
     }
     Ok(written_difference(memory, size, filler))
 }

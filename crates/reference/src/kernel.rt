@@ -1,3 +1,5 @@
+ghost use Rattle.std.specs.Prelude.{◌≡◌, length, IfOk};
+
 use crate::table::Table;
 use std::alloc::{AllocError, Global};
 use std::collections::BTreeSet;
@@ -23,11 +25,10 @@ fn led<W: Weight>(
     Ok(targets)
 }
 
-// The states that infinitely many words lead to.
-pub(crate) fn kernel<W: Weight>(
-    table: &Table<W>,
-    alloc: Global,
-) -> Result<BTreeSet<usize>, AllocError> {
+// For each state whether infinitely many words lead to it.
+pub(crate) fn kernel<W: Weight>(table: &Table<W>, alloc: Global) -> Result<Vec<bool>, AllocError>
+    ensures { IfOk result (λ v. length v.items ≡ length table.now.states.items) }
+{
     let count = table.states.len();
     let mut states = BTreeSet::new(alloc);
     states.insert(table.start)?;
@@ -41,7 +42,18 @@ pub(crate) fn kernel<W: Weight>(
         }
         states = led(table, &states, alloc)?;
     }
-    Ok(kernel)
+    belonging(&kernel, count, alloc)
+}
+
+// For each of so many states whether it belongs to a set.
+fn belonging(set: &BTreeSet<usize>, count: usize, alloc: Global) -> Result<Vec<bool>, AllocError>
+    ensures { IfOk result (λ v. length v.items ≡ count) }
+{
+    let mut belonging = Vec::new(alloc);
+    for state in 0..count {
+        belonging.push(set.contains(&state))?;
+    }
+    Ok(belonging)
 }
 
 // For each length below 2m the states from which a word of exactly that length is accepted.
@@ -83,4 +95,19 @@ pub(crate) fn long_word(
         }
     }
     None
+}
+
+// For each of so many states whether infinitely many words are accepted from it.
+pub(crate) fn co_kernel(
+    accepting: &[BTreeSet<usize>],
+    count: usize,
+    alloc: Global,
+) -> Result<Vec<bool>, AllocError>
+    ensures { IfOk result (λ v. length v.items ≡ count) }
+{
+    let mut co_kernel = Vec::new(alloc);
+    for state in 0..count {
+        co_kernel.push(long_word(accepting, count, state).is_some())?;
+    }
+    Ok(co_kernel)
 }

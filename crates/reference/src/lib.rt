@@ -1,13 +1,14 @@
 #![tactic(auto)]
 
 // Least and hyper tables once more, slowly, from what they are defined to be: a second implementation that shares no step with the
-// compiler, to be compared with it. Nothing is promised but that each call is safe and returns.
+// compiler, to be compared with it. What it answers is promised to be closed, with counts in range, and no more.
 mod almost;
 mod equivalent;
 mod hyper;
 mod kernel;
 mod least;
 mod push;
+mod redirect;
 mod table;
 #[cfg(test)]
 mod tests;

@@ -1,3 +1,6 @@
+ghost use Rattle.std.specs.Prelude.{◌≡◌, ◌<◌, length, IfOk};
+ghost use Rattle.reference.specs.Closed.{ClosedState, Closed};
+
 use std::alloc::{AllocError, Global};
 use tables::Source;
 use weights::Weight;
@@ -24,27 +27,38 @@ pub struct Table<W> {
     pub states: Vec<State<W>>,
 }
 
+impl<W: Weight> State<W> {
+    // A state of the table that a source means, question by question.
+    fn of<S: Source<W>>(source: &S, state: u16, alloc: Global) -> Result<State<W>, AllocError>
+        requires { state < (S.table source.now W.kind).states }
+        ensures { IfOk result (ClosedState (S.table source.now W.kind).states (S.table source.now W.kind).letters) }
+    {
+        let mut arcs = Vec::new(alloc);
+        for letter in 0..source.letters() {
+            let target = source.target(state, letter).unwrap();
+            let weight = source.weight(state, letter).unwrap();
+            arcs.push(Arc {
+                target: usize::from(target),
+                weight,
+            })?;
+        }
+        Ok(State {
+            is_final: source.is_final(state) == Some(true),
+            arcs,
+        })
+    }
+}
+
 impl<W: Weight> Table<W> {
-    // The table that a source means, question by question.
-    pub(crate) fn of<S: Source<W>>(source: &S, alloc: Global) -> Result<Table<W>, AllocError> {
+    // The table that a source means.
+    pub(crate) fn of<S: Source<W>>(source: &S, alloc: Global) -> Result<Table<W>, AllocError>
+        ensures closed { IfOk result Closed }
+        ensures states { IfOk result (λ t. length t.states.items ≡ (S.table source.now W.kind).states) }
+        ensures letters { IfOk result (λ t. t.letters ≡ (S.table source.now W.kind).letters) }
+    {
         let mut states = Vec::new(alloc);
         for state in 0..source.states() {
-            let mut arcs = Vec::new(alloc);
-            for letter in 0..source.letters() {
-                if let (Some(target), Some(weight)) = (
-                    source.target(state, letter),
-                    source.weight(state, letter),
-                ) {
-                    arcs.push(Arc {
-                        target: usize::from(target),
-                        weight,
-                    })?;
-                }
-            }
-            states.push(State {
-                is_final: source.is_final(state) == Some(true),
-                arcs,
-            })?;
+            states.push(State::of(source, state, alloc)?)?;
         }
         Ok(Table {
             letters: source.letters(),
@@ -67,6 +81,16 @@ impl<W: Weight> Table<W> {
             .arcs
             .get(usize::from(letter))
             .copied()
+    }
+
+    // The arc of a state and a letter that a closed table has.
+    pub(crate) fn arc_of(&self, state: usize, letter: u8) -> Arc<W>
+        requires closed { Closed self.now }
+        requires state { state < length self.now.states.items }
+        requires letter { letter < self.now.letters }
+        ensures { result.target < length self.now.states.items }
+    {
+        self.states[state].arcs[usize::from(letter)]
     }
 
     // A word with one letter more.

@@ -1,16 +1,20 @@
 use crate::element::Element;
-use crate::made::Made;
+use crate::memories::Memories;
+use crate::room::Results;
 use reference::{Compiled, Table};
 use std::alloc::{AllocError, Global};
 use std::fmt;
+use tables::{DrawnSize, Made};
 use weights::Refusal;
 
 // What of the two is compared.
 #[derive(Clone, Copy, PartialEq, Eq, Debug)]
 pub(crate) enum Part {
-    ArcAnswer,
-    ArcTarget,
-    ArcWeight,
+    CallAnswer,
+    DrawnSize,
+    DrawnTarget,
+    DrawnWeight,
+    DrawnMark,
     Answer,
     Report,
     LeastTarget,
@@ -26,9 +30,11 @@ pub(crate) enum Part {
 impl fmt::Display for Part {
     fn fmt<W: fmt::Write>(&self, f: &mut fmt::Formatter<W>) -> fmt::Result {
         f.write_str(match self {
-            Part::ArcAnswer => "answer to an arc",
-            Part::ArcTarget => "target of a drawn table",
-            Part::ArcWeight => "weight of a drawn table",
+            Part::CallAnswer => "answer to a call",
+            Part::DrawnSize => "letters and states of a drawn table",
+            Part::DrawnTarget => "target of a drawn table",
+            Part::DrawnWeight => "weight of a drawn table",
+            Part::DrawnMark => "mark of a drawn table",
             Part::Answer => "answer with a short memory",
             Part::Report => "report",
             Part::LeastTarget => "target of the least table",
@@ -87,23 +93,53 @@ fn number(refusal: Option<Refusal>) -> usize {
     }
 }
 
-// The first difference between the arcs of a closed book and those that are wanted, by state and letter.
-pub(crate) fn arcs_difference<W: Element>(
-    targets: &[u16],
-    weights: &[W],
-    wanted_targets: &[usize],
-    wanted_weights: &[W],
+// The number by which a call of a list was refused, 0 where it was taken.
+fn answer_number<W>(made: &Made<W>) -> usize {
+    number(made.answer.err())
+}
+
+// The first difference between the answers of a list of calls and the refusals that are wanted.
+pub(crate) fn answers_difference<W>(
+    made: &[Made<W>],
+    wanted: &[Option<Refusal>],
 ) -> Option<Difference> {
-    numbers(Part::ArcTarget, targets, wanted_targets).or(elements(
-        Part::ArcWeight,
-        weights,
-        wanted_weights,
-    ))
+    for (place, (one, wanted)) in made.iter().zip(wanted).enumerate() {
+        let library = answer_number(one);
+        let reference = number(*wanted);
+        if library != reference {
+            return Some(Difference {
+                part: Part::CallAnswer,
+                place,
+                library,
+                reference,
+            });
+        }
+    }
+    None
+}
+
+// The difference between two sizes of a drawn table, the letters first.
+pub(crate) fn size_difference(size: DrawnSize, letters: u8, states: u16) -> Option<Difference> {
+    numbers(
+        Part::DrawnSize,
+        &[u16::from(size.letters), size.states],
+        &[usize::from(letters), usize::from(states)],
+    )
+}
+
+// The first difference between a closed book and the table that is wanted.
+pub(crate) fn table_difference<W: Element>(
+    drawn: &Memories<W>,
+    wanted: &Wanted<W>,
+) -> Option<Difference> {
+    numbers(Part::DrawnTarget, &drawn.targets, &wanted.targets)
+        .or(elements(Part::DrawnWeight, &drawn.weights, &wanted.weights))
+        .or(bytes(Part::DrawnMark, &drawn.marks, &wanted.marks))
 }
 
 // The first difference between what both make of a source.
 pub(crate) fn first_difference<W: Element>(
-    made: &Made<W>,
+    made: &Results<W>,
     wanted: &Compiled<W>,
     alloc: Global,
 ) -> Result<Option<Difference>, AllocError> {
@@ -119,21 +155,19 @@ pub(crate) fn first_difference<W: Element>(
         wanted.kernel_count,
         wanted.agreement,
     ];
-    let mut least_marks = Vec::new(alloc);
+    let mut least = Wanted::of(&wanted.least, alloc)?;
     for state in 0..wanted.least.states.len() {
-        least_marks.push(mark(wanted, state))?;
+        least.add_mark(mark(wanted, state))?;
     }
-    let mut hyper_marks = Vec::new(alloc);
+    let mut hyper = Wanted::of(&wanted.hyper, alloc)?;
     for state in wanted.kept.iter() {
-        hyper_marks.push(mark(wanted, *state))?;
+        hyper.add_mark(mark(wanted, *state))?;
     }
-    let least = Wanted::of(&wanted.least, alloc)?;
-    let hyper = Wanted::of(&wanted.hyper, alloc)?;
     Ok(
         numbers(Part::Report, &report, &counts)
             .or(numbers(Part::LeastTarget, &made.least.targets, &least.targets))
             .or(elements(Part::LeastWeight, &made.least.weights, &least.weights))
-            .or(bytes(Part::LeastMark, &made.least.marks, &least_marks))
+            .or(bytes(Part::LeastMark, &made.least.marks, &least.marks))
             .or(numbers(
                 Part::Representative,
                 &made.representatives,
@@ -142,30 +176,50 @@ pub(crate) fn first_difference<W: Element>(
             .or(elements(Part::Factor, &made.factors, &wanted.factors))
             .or(numbers(Part::HyperTarget, &made.hyper.targets, &hyper.targets))
             .or(elements(Part::HyperWeight, &made.hyper.weights, &hyper.weights))
-            .or(bytes(Part::HyperMark, &made.hyper.marks, &hyper_marks)),
+            .or(bytes(Part::HyperMark, &made.hyper.marks, &hyper.marks)),
     )
 }
 
 // A table in the layout of a book.
 #[derive(Drop)]
-struct Wanted<W> {
+pub(crate) struct Wanted<W> {
     targets: Vec<usize>,
     weights: Vec<W>,
+    marks: Vec<u8>,
 }
 
 impl<W: Element> Wanted<W> {
+    // The layout with nothing in it.
+    pub(crate) fn new(alloc: Global) -> Wanted<W> {
+        Wanted {
+            targets: Vec::new(alloc),
+            weights: Vec::new(alloc),
+            marks: Vec::new(alloc),
+        }
+    }
+
+    // A table without marks.
     fn of(table: &Table<W>, alloc: Global) -> Result<Wanted<W>, AllocError> {
-        let mut targets = Vec::new(alloc);
-        let mut weights = Vec::new(alloc);
-        targets.push(table.start)?;
-        weights.push(table.start_weight)?;
+        let mut wanted = Wanted::new(alloc);
+        wanted.add_step(table.start, table.start_weight)?;
         for state in table.states.iter() {
             for arc in state.arcs.iter() {
-                targets.push(arc.target)?;
-                weights.push(arc.weight)?;
+                wanted.add_step(arc.target, arc.weight)?;
             }
         }
-        Ok(Wanted { targets, weights })
+        Ok(wanted)
+    }
+
+    // Adds the start, and then the arcs in their order.
+    pub(crate) fn add_step(&mut self, target: usize, weight: W) -> Result<(), AllocError> {
+        self.targets.push(target)?;
+        self.weights.push(weight)?;
+        Ok(())
+    }
+
+    pub(crate) fn add_mark(&mut self, mark: u8) -> Result<(), AllocError> {
+        self.marks.push(mark)?;
+        Ok(())
     }
 }
 

@@ -1,17 +1,19 @@
 #![tactic(auto)]
 
 // Draws tables that look random, has the compiler and the reference make the least and the hyper table of each, and compares them; and
-// compares each book that is drawn with the first arcs of its calls. The arguments are how many tables, and the number of the first.
-mod arcs;
+// draws each list of calls by each call that takes one, and compares answers and tables with another reading of the rules. The arguments
+// are how many tables, and the number of the first.
 mod compare;
 mod draft;
 mod element;
-mod made;
+mod list;
 mod memories;
+mod room;
+mod sketch;
 mod tally;
 mod trial;
 
-use anyhow::bail;
+use anyhow::{Context, bail};
 use compare::Difference;
 use random::Random;
 use std::env;
@@ -68,7 +70,10 @@ fn print_counts(rt: &HostRuntime, tallies: &Tallies) -> anyhow::Result<()> {
 fn arguments(rt: &HostRuntime) -> anyhow::Result<(u32, u32)> {
     let mut numbers = [4000u32, 0];
     for (number, text) in numbers.iter_mut().zip(env::args(rt)?.skip(1)) {
-        *number = text.as_str().parse::<u32>().unwrap_or(0);
+        *number = text
+            .as_str()
+            .parse::<u32>()
+            .context(format_args!("reading {text:?}"))?;
     }
     let [count, first] = numbers;
     Ok((count, first))

@@ -1,11 +1,8 @@
-use crate::arcs::FirstArcs;
-use crate::compare::Difference;
-use crate::element::Element;
 use std::alloc::{AllocError, Global};
-use tables::{Book, Call, Sheet, make};
-use weights::{Refusal, Weight};
+use tables::Source;
+use weights::Weight;
 
-// The three memories of a table.
+// The three memories of a table, in the layout of a book.
 #[derive(Drop)]
 pub(crate) struct Memories<W> {
     pub(crate) targets: Vec<u16>,
@@ -26,6 +23,31 @@ impl<W: Weight> Memories<W> {
         })
     }
 
+    // The table of a source, question by question; of what it does not answer, numbers that no table has.
+    pub(crate) fn of<S: Source<W>>(source: &S, alloc: Global) -> Result<Memories<W>, AllocError> {
+        let mut targets = Vec::new(alloc);
+        let mut weights = Vec::new(alloc);
+        let mut marks = Vec::new(alloc);
+        targets.push(source.start())?;
+        weights.push(source.start_weight())?;
+        for state in 0..source.states() {
+            for letter in 0..source.letters() {
+                targets.push(source.target(state, letter).unwrap_or(u16::MAX))?;
+                weights.push(source.weight(state, letter).unwrap_or(W::one()))?;
+            }
+            let mark = match source.is_final(state) {
+                Some(is_final) => u8::from(is_final),
+                None => u8::MAX,
+            };
+            marks.push(mark)?;
+        }
+        Ok(Memories {
+            targets,
+            weights,
+            marks,
+        })
+    }
+
     // Takes the last place from one of the three.
     pub(crate) fn shorten(&mut self, memory: u64) {
         match memory {
@@ -40,53 +62,4 @@ impl<W: Weight> Memories<W> {
             },
         }
     }
-}
-
-// What became of a list of calls.
-#[derive(Clone, Copy)]
-pub(crate) struct Answers {
-    pub(crate) refused: bool,
-    // a state was refused
-    pub(crate) full: bool,
-    // arcs were drawn again, so often, and of these so often with another target or weight
-    pub(crate) redrawn: usize,
-    pub(crate) redrawn_otherwise: usize,
-    // where the book and the first arcs differ
-    pub(crate) difference: Option<Difference>,
-}
-
-// Makes the calls on a new book over the memories, and compares it with the first arcs of the calls.
-pub(crate) fn draw<'a, W: Element>(
-    memories: &'a mut Memories<W>,
-    calls: &[Call<W>],
-    alloc: Global,
-) -> Result<(Sheet<'a, W>, Answers), AllocError> {
-    let Memories {
-        targets,
-        weights,
-        marks,
-    } = memories;
-    let mut book = Book::open(targets, weights, marks);
-    let mut arcs = FirstArcs::new(alloc);
-    let mut answers = Answers {
-        refused: false,
-        full: false,
-        redrawn: 0,
-        redrawn_otherwise: 0,
-        difference: None,
-    };
-    for (number, call) in calls.iter().enumerate() {
-        let answer = make(&mut book, *call);
-        if let Err(refusal) = answer {
-            answers.refused = true;
-            answers.full |= refusal == Refusal::NoRoom;
-        }
-        let difference = arcs.note(number, *call, answer)?;
-        answers.difference = answers.difference.or(difference);
-    }
-    let sheet = book.close();
-    answers.redrawn = arcs.redrawn;
-    answers.redrawn_otherwise = arcs.redrawn_otherwise;
-    answers.difference = answers.difference.or(arcs.compared(&sheet, alloc)?);
-    Ok((sheet, answers))
 }

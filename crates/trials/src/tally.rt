@@ -12,6 +12,8 @@ pub(crate) enum Count {
     Folds,
     Boths,
     Piles,
+    Calls,
+    RefusedCalls,
     Refused,
     Redrawn,
     RedrawnOtherwise,
@@ -28,7 +30,7 @@ pub(crate) enum Count {
 }
 
 // Each of them, with its name.
-pub(crate) const COUNTS: [(Count, &str); 21] = [
+pub(crate) const COUNTS: [(Count, &str); 23] = [
     (Count::Tables, "tables"),
     (Count::States, "their states"),
     (Count::LeastStates, "states of the least tables"),
@@ -37,6 +39,8 @@ pub(crate) const COUNTS: [(Count, &str); 21] = [
     (Count::Folds, "folds"),
     (Count::Boths, "boths"),
     (Count::Piles, "piles of fold and both"),
+    (Count::Calls, "calls of their lists"),
+    (Count::RefusedCalls, "of these refused"),
     (Count::Refused, "books that refused a call"),
     (Count::Redrawn, "arcs drawn again"),
     (
@@ -60,12 +64,12 @@ pub(crate) const COUNTS: [(Count, &str); 21] = [
 
 #[derive(Clone, Copy)]
 pub(crate) struct Tally {
-    counts: [u64; 21],
+    counts: [u64; 23],
 }
 
 impl Tally {
     pub(crate) fn new() -> Tally {
-        Tally { counts: [0; 21] }
+        Tally { counts: [0; 23] }
     }
 
     pub(crate) fn get(&self, count: Count) -> u64 {

@@ -1,0 +1,3 @@
+pub mod Closing
+pub mod Members
+pub mod Keeping
