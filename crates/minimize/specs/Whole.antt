@@ -1,4 +1,5 @@
--- A list of calls on a new book, which is then closed and compiled: what is promised of all that, in one. Assumes nothing.
+-- A list of calls on a new book, which is then let go, and whose table is compiled: what is promised of all that, in one. Assumes
+-- nothing.
 use Rattle.std.specs.Prelude.{◌≡◌, ℕ, List, length, Ok, Err, Result}
 use Rattle.weights.specs.Group.{Kind}
 use Rattle.weights.specs.declared.refusal.Refusal.{Refusal}
@@ -26,13 +27,13 @@ abbrev pub sketch_in : {W : Type 0} → Drawing W → Sketch W
 sketch_in d = sketch_of (lengths_of d.targets d.weights d.marks) blank (calls_of d.made)
 
 module _ {W : Type 0} (K : Kind W) where
-  -- the table of the closed book
+  -- the table that the calls draw
   abbrev pub table_in : Drawing W → Table K.group.Mean
   table_in d = sketch_table K (sketch_in d)
 
   -- The whole promise, from calls to tables: d and m are what the memories hold before, and d' and m' what they hold after.
   pub record Whole (d d' : Drawing W) (m m' : Memories W) (r : Report) : Type 0 where
-    -- each answer, each place of the closed book, and its table are as the sketch of the list tells
+    -- each answer, each place of the memories of the book, and the table that they mean are as the list tells
     pub drawn :
         Drawn K d.targets d.weights d.marks d.made d'.made
         (laid d'.targets d'.weights d'.marks (sketch_in d).letters (length (sketch_in d).finals))

@@ -1,4 +1,4 @@
-ghost use Rattle.std.specs.Prelude.{◌≡◌, ◌+◌, ◌*◌, ◌≤◌, length, Decides};
+ghost use Rattle.std.specs.Prelude.{◌≡◌, ◌+◌, ◌-◌, ◌*◌, ◌≤◌, length, Decides};
 ghost use Rattle.minimize.specs.Memories.{TableRoom, StateRoom, Room, SameLengths, memories};
 ghost use Rattle.std.specs.Prelude.{◌++◌};
 ghost use Rattle.minimize.specs.Compile.{Compiled, Outcome};
@@ -81,6 +81,15 @@ pub(crate) fn has_room<W: Weight>(
         )
 }
 
+// From how many letters on words agree, where the least table has so many states.
+fn agreement_length(least: u16) -> u16
+    requires some { 1 ≤ least }
+    requires few { least ≤ 4096 }
+    ensures { result ≡ 2 * least - 2 }
+{
+    2 * least - 2
+}
+
 // Compiles a source, in memories that have room.
 fn compile_in_room<W: Weight, S: Source<W>, T: Watch>(
     source: &S,
@@ -136,7 +145,7 @@ fn compile_in_room<W: Weight, S: Source<W>, T: Watch>(
         least,
         hyper: counts.states,
         kernel: counts.kernel,
-        agreement: 2 * least - 2,
+        agreement: agreement_length(least),
     }
 }
 

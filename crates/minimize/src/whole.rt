@@ -99,10 +99,10 @@ fn compile_drawn<'a, W: Weight>(
     }
 }
 
-// Makes a list of calls on a new book, closes it and compiles its sheet.
+// Makes a list of calls on a new book, lets the book go, and compiles the table that it drew, by a sheet over the same memory.
 //
 // `made` has the calls, and gets the answer of each; `book` is what the book is drawn in; the rest is as for `compile`. Where `compile`
-// would refuse the sheet, this refuses with 6 before it makes the first call, and nothing is written.
+// would refuse that sheet, this refuses with 6 before it makes the first call, and nothing is written.
 pub fn draw_and_compile<W: Weight>(
     made: &mut [Made<W>],
     book: TableMemory<'_, W>,

@@ -1,4 +1,4 @@
-use Rattle.std.proofs.Common.{arith, ◌≡◌, ℕ, sym, refl, subst}
+use Rattle.std.proofs.Common.{arith, ◌≡◌, ℕ, sym, subst}
 use Rattle.tables.specs.Book.{laid}
 use Rattle.theory.specs.Least.{Least}
 use Rattle.theory.proofs.Minimal.{least_apart, least_reachable}
@@ -63,5 +63,5 @@ returns-clause-compiled g c =
       marks = written.marked.marks;
       hyper_marks = written.copied;
       kernel_count = written.kernel_count;
-      agreement = refl;
+      agreement = c.agreement_length.ensures;
     }
