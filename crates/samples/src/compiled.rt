@@ -81,7 +81,7 @@ pub(crate) fn report(least: u16, hyper: u16, kernel: u16) -> Report {
 }
 
 // The codes of elements.
-fn codes<W: Coded>(rt: &HostRuntime, elements: &[W]) -> Result<Vec<u16>, Fail> {
+pub(crate) fn codes<W: Coded>(rt: &HostRuntime, elements: &[W]) -> Result<Vec<u16>, Fail> {
     let mut codes = Vec::new(rt.alloc());
     for element in elements {
         codes.push(element.code())?;

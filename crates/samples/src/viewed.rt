@@ -1,5 +1,5 @@
 // The tables that compiling left, read as views where they lie.
-use crate::compiled::{FORK_MARKS, FORK_TARGETS, compile_exactly, fork_weights, report};
+use crate::compiled::{FORK_MARKS, FORK_TARGETS, codes, compile_exactly, fork_weights, report};
 use drafts::write_draft;
 use minimize::TableView;
 use std::test::Fail;
@@ -39,6 +39,8 @@ fn a_hyper_table_is_read_as_a_view(rt: HostRuntime) -> Result<(), Fail> {
     let again = compile_exactly(&rt, &hyper)?;
     assert_eq!(rt; again.report, report(4, 4, 1));
     assert!(rt; again.targets.starts_with(&[0, 1, 2, 3, 3, 3, 3, 3, 3]));
+    assert!(rt; codes(&rt, &again.weights)?.starts_with(&[7, 2, 1, 1, 2, 5, 11, 3, 1]));
+    assert!(rt; again.marks.starts_with(&[4, 4, 5, 7]));
     Ok(())
 }
 
