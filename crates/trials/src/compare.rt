@@ -11,6 +11,7 @@ use weights::Refusal;
 #[derive(Clone, Copy, PartialEq, Eq, Debug)]
 pub(crate) enum Part {
     CallAnswer,
+    Unmade,
     DrawnSize,
     DrawnTarget,
     DrawnWeight,
@@ -31,6 +32,7 @@ impl fmt::Display for Part {
     fn fmt<W: fmt::Write>(&self, f: &mut fmt::Formatter<W>) -> fmt::Result {
         f.write_str(match self {
             Part::CallAnswer => "answer to a call",
+            Part::Unmade => "answer to a call that is not made",
             Part::DrawnSize => "letters and states of a drawn table",
             Part::DrawnTarget => "target of a drawn table",
             Part::DrawnWeight => "weight of a drawn table",
@@ -93,9 +95,31 @@ fn number(refusal: Option<Refusal>) -> usize {
     }
 }
 
+// What stands for the number of a call that is not made.
+const UNMADE: usize = usize::MAX;
+
 // The number by which a call of a list was refused, 0 where it was taken.
 fn answer_number<W>(made: &Made<W>) -> usize {
-    number(made.answer.err())
+    match made.answer {
+        Some(answer) => number(answer.err()),
+        None => UNMADE,
+    }
+}
+
+// The first call of a list that is made though it should not.
+pub(crate) fn unmade_difference<W>(made: &[Made<W>]) -> Option<Difference> {
+    for (place, one) in made.iter().enumerate() {
+        let library = answer_number(one);
+        if library != UNMADE {
+            return Some(Difference {
+                part: Part::Unmade,
+                place,
+                library,
+                reference: UNMADE,
+            });
+        }
+    }
+    None
 }
 
 // The first difference between the answers of a list of calls and the refusals that are wanted.

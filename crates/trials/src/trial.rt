@@ -1,4 +1,4 @@
-use crate::compare::{Difference, Part, answer_difference, first_difference};
+use crate::compare::{Difference, Part, answer_difference, first_difference, unmade_difference};
 use crate::draft::{Draft, any_calls};
 use crate::element::Element;
 use crate::list::{List, drawn, drawn_in_parts, size_of};
@@ -129,11 +129,8 @@ fn whole_difference<W: Element>(
     let states = size.states.saturating_add(1);
     let mut short = Room::new(states, size.letters, alloc)?;
     short.shorten(memory);
-    let refused = short_difference(
-        short
-            .draw_and_compile(&mut made, list.memories(alloc)?)
-            .err(),
-    );
+    let answer = short.draw_and_compile(&mut made, list.memories(alloc)?);
+    let refused = short_difference(answer.err()).or(unmade_difference(&made));
     let room = Room::new(states, size.letters, alloc)?;
     let results = room.draw_and_compile(&mut made, book)?;
     Ok(
