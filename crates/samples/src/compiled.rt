@@ -418,7 +418,7 @@ fn calls_on_no_memory_are_compiled(rt: HostRuntime) -> Result<(), Fail> {
         },
     );
     assert_eq!(rt; drawn, Ok(report(1, 1, 1)));
-    assert_eq!(rt; made[0].answer, Err(Refusal::NoRoom));
+    assert_eq!(rt; made[0].answer, Some(Err(Refusal::NoRoom)));
     assert_eq!(rt; least_targets, [0, 0]);
     assert_eq!(rt; least_weights.map(|weight| weight.code()), [1, 1]);
     assert_eq!(rt; least_marks, [2]);
