@@ -13,6 +13,7 @@ import glob
 import os
 import re
 import shutil
+import signal
 import subprocess
 import sys
 import tempfile
@@ -20,6 +21,8 @@ import tempfile
 KEYS = ["crate", "says", "file", "old", "new"]
 # How the line begins that `rt check` prints once it has read all code and found it sound.
 SOUND = "only="
+# What must be there: a folder without one of them would show less, and no line would tell.
+EDITS = ["must-not-build/an_open_book_is_compiled.edit", "must-not-build/arc_in_a_closed_book.edit"]
 
 
 def text_of(path):
@@ -41,11 +44,12 @@ def check(folder):
     """Returns the lines that `rt check` prints, up to where the code is sound."""
     how = {"stdin": subprocess.DEVNULL, "stdout": subprocess.PIPE, "stderr": subprocess.STDOUT, "encoding": "utf-8", "errors": "replace"}
     lines = []
-    with subprocess.Popen(["rt", "check"], cwd=folder, **how) as ran:
+    with subprocess.Popen(["rt", "check"], cwd=folder, start_new_session=True, **how) as ran:
         for line in ran.stdout:
             lines.append(line.rstrip("\n"))
             if line.startswith(SOUND):
-                ran.kill()
+                os.killpg(ran.pid, signal.SIGKILL)
+                break
     return lines
 
 
@@ -73,8 +77,8 @@ def fault_of(edit):
 
 
 def main():
-    edits = sorted(glob.glob("must-not-build/*"))
-    faults = [(edit, fault_of(edit)) for edit in edits] or [("must-not-build/", "has no edit")]
+    edits = sorted({*glob.glob("must-not-build/*"), *EDITS})
+    faults = [(edit, fault_of(edit)) for edit in edits]
     told = [f"{edit} {fault}" for edit, fault in faults if fault]
     for line in told:
         print(line, file=sys.stderr)

@@ -1,5 +1,5 @@
 -- What compiling a source comes to: the tables, lists and counts that it leaves, and what is promised of them. Assumes nothing.
-use Rattle.std.specs.Prelude.{◌≡◌, ℕ, ◌+◌, ◌-◌, ◌*◌, ◌<◌, ◌≤◌, ◌↔◌, Bool, true, false, List, cond, length, Ok, Err, Result, slice_index}
+use Rattle.std.specs.Prelude.{◌≡◌, ℕ, ◌+◌, ◌*◌, ◌<◌, ◌≤◌, ◌↔◌, Bool, true, false, List, cond, length, Ok, Err, Result, slice_index}
 use Rattle.weights.specs.Group.{Kind}
 use Rattle.weights.specs.Refusal.{told, bare}
 use Rattle.weights.specs.declared.refusal.Refusal.{Refusal}
@@ -11,7 +11,7 @@ use Rattle.theory.specs.Series.{WeighAlikeFrom, AlmostWeighAlike}
 use Rattle.theory.specs.Least.{Least}
 use Rattle.theory.specs.Kernel.{Kernel, Preamble, CoKernel, CoPreamble}
 use Rattle.theory.specs.Hyper.{Hyper, count_below}
-use Rattle.theory.specs.Theorems.{LengthsTell, Minimal, SameTable, SameHyper}
+use Rattle.theory.specs.Theorems.{LengthsTell, Minimal, SameTable, SameHyper, agreement_length}
 use Rattle.minimize.specs.Lists.{ListsFollow}
 use Rattle.minimize.specs.Rows.{rows_table, Laid}
 use Rattle.minimize.specs.Memories.{Memories, Room, SameLengths}
@@ -70,7 +70,7 @@ module _ {W : Type 0} (K : Kind W) where
     pub hyper_marks :
         (q : ℕ) → q < r.least → hyper.kept q ≡ true → slice_index m.hyper_marks (count_below hyper.kept q) ≡ slice_index m.marks q
     pub kernel_count : r.kernel ≡ count_below kernel r.least
-    pub agreement : r.agreement ≡ 2 * r.least - 2
+    pub agreement : r.agreement ≡ agreement_length r.least
 
   -- What follows for a source that means t, of the tables that are left in the memories. The tables that are spoken of may have any
   -- number of states.

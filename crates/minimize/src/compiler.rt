@@ -1,6 +1,7 @@
 ghost use Rattle.std.specs.Prelude.{◌≡◌, ◌+◌, ◌-◌, ◌*◌, ◌≤◌, length, Decides};
 ghost use Rattle.minimize.specs.Memories.{TableRoom, StateRoom, Room, SameLengths, memories};
 ghost use Rattle.std.specs.Prelude.{◌++◌};
+ghost use Rattle.theory.specs.Theorems.{agreement_length};
 ghost use Rattle.minimize.specs.Compile.{Compiled, Outcome};
 ghost use Rattle.minimize.specs.Watch.{Passed, Watched, least_steps, hyper_steps};
 
@@ -81,11 +82,11 @@ pub(crate) fn has_room<W: Weight>(
         )
 }
 
-// From how many letters on words agree, where the least table has so many states.
+// The agreement length, where the least table has so many states.
 fn agreement_length(least: u16) -> u16
     requires some { 1 ≤ least }
     requires few { least ≤ 4096 }
-    ensures { result ≡ 2 * least - 2 }
+    ensures { result ≡ agreement_length least }
 {
     2 * least - 2
 }

@@ -5,7 +5,7 @@ ghost use Rattle.tables.specs.Table.{has_arc, meant, weight_at};
 ghost use Rattle.minimize.specs.View.{viewed, seen_to, view_table, view_lawful};
 
 use crate::rows::{NONE, place};
-use tables::{Source, get_or, letters_read};
+use tables::{Source, element_in, get_or, letters_read};
 use weights::Weight;
 
 // A table that three slices hold in the layout of a book, without an off state: what compiling leaves can be read so. It has no
@@ -59,7 +59,7 @@ impl<'a, W: Weight> TableView<'a, W> {
         ensures meaning { W.kind.mean result ≡ mean_at W.kind (viewed self.now).weights at }
         ensures element { (x : W) → slice_get (viewed self.now).weights at ≡ Some x → result ≡ x }
     {
-        get_or(self.weights, at, &W::one())
+        element_in(self.weights, at)
     }
 }
 

@@ -1,2 +1,3 @@
+mod AlikeWeights
 mod Rereading
 mod LeastSource

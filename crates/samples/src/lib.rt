@@ -1,6 +1,7 @@
 #![tactic(auto)]
 
 // Examples of the library in use, each refusal among them: tests, and functions that are proved and not run.
+mod alike;
 #[cfg(test)]
 mod arcs;
 #[cfg(test)]

@@ -7,7 +7,7 @@ use minimize::{StateMemory, TableMemory, TableView, WorkMemory, compile};
 use tables::Source;
 use weights::Weight;
 
-// A source with the fewest states that weighs every word as the given one, where the memories have room.
+// A source that weighs every word as the given one does: a view over its least table. None where `compile` refuses.
 fn least_source<'a, W: Weight, S: Source<W>>(
     source: &S,
     targets: &'a mut [u16],

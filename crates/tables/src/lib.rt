@@ -14,7 +14,7 @@ pub use book::{Book, make};
 pub use call::Call;
 pub use list::{draw, make_all};
 pub use made::Made;
-pub use memory::get_or;
+pub use memory::{element_in, get_or};
 pub use sheet::Sheet;
 pub use size::{DrawnSize, drawn_size};
 pub use source::Source;

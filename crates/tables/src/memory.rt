@@ -32,7 +32,7 @@ pub fn get_or<T: Copy>(memory: &[T], at: usize, default: &T) -> T
 }
 
 // The element at a place, one where the place does not exist.
-pub(crate) fn element_in<W: Weight>(elements: &[W], at: usize) -> W
+pub fn element_in<W: Weight>(elements: &[W], at: usize) -> W
     ensures meaning { W.kind.mean result ≡ mean_at W.kind elements.now at }
     ensures element { (x : W) → slice_get elements.now at ≡ Some x → result ≡ x }
 {

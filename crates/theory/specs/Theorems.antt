@@ -41,6 +41,10 @@ pub record SameHyper (G : Group) (t h k : Table G.Mean) (r s : ℕ → ℕ) (f g
 abbrev pub LengthsTell : (List ℕ → Type 0) → Type 0
 LengthsTell P = (s : ℕ) → ByLength s P
 
+-- the agreement length, where the least table has m states
+abbrev pub agreement_length : ℕ → ℕ
+agreement_length m = 2 * m - 2
+
 module _ (G : Group) where
   -- each least table is minimal
   abbrev pub LeastIsMinimal : Type 0
@@ -57,11 +61,11 @@ module _ (G : Group) where
       (t h k : Table G.Mean) (r s : ℕ → ℕ) (f g : ℕ → G.Mean) → Closed t → Hyper G t h r f → Hyper G t k s g →
       SameHyper G t h k r s f g
 
-  -- a source and its hyper table weigh every word of at least 2m - 2 letters alike, where m counts the states of the least table
+  -- a source and its hyper table weigh every word alike that has at least as many letters as the agreement length
   abbrev pub HyperAgrees : Type 0
   HyperAgrees =
       (t l h : Table G.Mean) (r : ℕ → ℕ) (f : ℕ → G.Mean) → Lawful t → Least G t l → Hyper G l h r f →
-      WeighAlikeFrom G (2 * l.states - 2) t h
+      WeighAlikeFrom G (agreement_length l.states) t h
 
   -- every table that weighs all but finitely many words as the source does has at least as many states as the hyper table
   abbrev pub HyperIsSmallest : Type 0

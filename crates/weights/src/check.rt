@@ -6,9 +6,9 @@ ghost use Rattle.std.proofs.lemmas.Bool.{cond-true};
 ghost use Rattle.weights.specs.Numbers.{chosen_path};
 ghost use Rattle.weights.specs.Residues.{number_stored};
 
-use crate::canonical::Canonical;
 use crate::coded::Coded;
 use crate::commuting::Commuting;
+use crate::injective::Injective;
 use crate::refusal::Refusal;
 use crate::weight::Weight;
 
@@ -111,8 +111,8 @@ impl Weight for Check {
     }
 }
 
-impl Canonical for Check {
-    fn canonical(self, _other: Check) {}
+impl Injective for Check {
+    fn injective(self, _other: Check) {}
 }
 
 impl Commuting for Check {

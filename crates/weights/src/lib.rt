@@ -1,10 +1,10 @@
 #![tactic(auto)]
 
 mod beam_wheel;
-mod canonical;
 mod check;
 mod coded;
 mod commuting;
+mod injective;
 mod pair;
 mod places;
 mod plain;
@@ -15,10 +15,10 @@ mod weight;
 mod wheel;
 
 pub use beam_wheel::BeamWheel;
-pub use canonical::Canonical;
 pub use check::Check;
 pub use coded::Coded;
 pub use commuting::Commuting;
+pub use injective::Injective;
 pub use pair::Pair;
 pub use places::{add_places, invert_place, same_place};
 pub use plain::Plain;

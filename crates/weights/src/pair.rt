@@ -1,7 +1,7 @@
 ghost use Rattle.weights.specs.Pair.{pair_kind};
 
-use crate::canonical::Canonical;
 use crate::commuting::Commuting;
+use crate::injective::Injective;
 use crate::weight::Weight;
 
 // An element of each of two kinds.
@@ -40,10 +40,10 @@ impl<L: Weight, R: Weight> Weight for Pair<L, R> {
     }
 }
 
-impl<L: Canonical, R: Canonical> Canonical for Pair<L, R> {
-    fn canonical(self, other: Pair<L, R>) {
-        self.left.canonical(other.left);
-        self.right.canonical(other.right);
+impl<L: Injective, R: Injective> Injective for Pair<L, R> {
+    fn injective(self, other: Pair<L, R>) {
+        self.left.injective(other.left);
+        self.right.injective(other.right);
     }
 }
 

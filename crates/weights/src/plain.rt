@@ -3,9 +3,9 @@ ghost use Rattle.std.specs.Prelude.{◌≡◌};
 ghost use Rattle.weights.specs.Plain.{plain, plain_kind};
 ghost use Rattle.std.proofs.Common.{rules};
 
-use crate::canonical::Canonical;
 use crate::coded::Coded;
 use crate::commuting::Commuting;
+use crate::injective::Injective;
 use crate::refusal::Refusal;
 use crate::weight::Weight;
 
@@ -39,8 +39,8 @@ impl Weight for Plain {
     }
 }
 
-impl Canonical for Plain {
-    fn canonical(self, _other: Plain) {}
+impl Injective for Plain {
+    fn injective(self, _other: Plain) {}
 }
 
 impl Commuting for Plain {

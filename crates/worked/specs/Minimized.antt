@@ -1,5 +1,5 @@
 -- What a table is minimized to: its least and its hyper table, with their counts and marks. Assumes nothing.
-use Rattle.std.specs.Prelude.{◌≡◌, ℕ, ◌-◌, ◌*◌, ◌<◌, Bool, true, false, List, map}
+use Rattle.std.specs.Prelude.{◌≡◌, ℕ, ◌<◌, Bool, true, false, List, map}
 use Rattle.std.specs.List.{range_with_len}
 use Rattle.weights.specs.Group.{Group}
 use Rattle.tables.specs.Table.{Table}
@@ -7,7 +7,7 @@ use Rattle.theory.specs.Series.{WeighAlikeFrom}
 use Rattle.theory.specs.Least.{Least}
 use Rattle.theory.specs.Kernel.{Kernel, Preamble, CoKernel, CoPreamble}
 use Rattle.theory.specs.Hyper.{Hyper, count_below}
-use Rattle.theory.specs.Theorems.{SameTable, SameHyper}
+use Rattle.theory.specs.Theorems.{SameTable, SameHyper, agreement_length}
 use Rattle.minimize.specs.Compile.{mark_of}
 
 -- what a table is minimized to: its least table, which of the states of that are kernel and which co-kernel, and the hyper table
@@ -36,7 +36,7 @@ counts t m =
       least = m.least.states;
       hyper = m.hyper.states;
       kernel = count_below m.kernel m.least.states;
-      agreement = 2 * m.least.states - 2;
+      agreement = agreement_length m.least.states;
     }
 
 -- the marks of the states of the least table, in order

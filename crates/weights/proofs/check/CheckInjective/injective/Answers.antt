@@ -1,7 +1,7 @@
 use Rattle.std.proofs.Common.{sym, ap, ◌∙◌, arith}
 use Rattle.weights.specs.Check.{check_of}
 use Rattle.weights.specs.Residues.{is_element}
-use Rattle.weights.proofs.check.CheckCanonical.canonical.Goals as goal
+use Rattle.weights.proofs.check.CheckInjective.injective.Goals as goal
 
 pub returns : goal.returns
 returns c e =

@@ -2,9 +2,9 @@ ghost use Rattle.std.specs.Prelude.{◌≡◌};
 
 use crate::weight::Weight;
 
-// A weight kind that stores each meaning in one way, so that what is told of the meaning of an element determines the element.
-pub trait Canonical: Weight {
+// A weight kind in which elements of one meaning are one element, so that what is told of a meaning is told of the element.
+pub trait Injective: Weight {
     // Nothing is computed: the promise is that elements which mean the same are equal.
-    fn canonical(self, other: Self)
+    fn injective(self, other: Self)
         ensures { Self.kind.mean self ≡ Self.kind.mean other → self ≡ other };
 }
