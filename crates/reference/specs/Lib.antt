@@ -1,3 +1,4 @@
 pub mod Closed
 pub mod Members
 pub mod Redirection
+pub mod Fits

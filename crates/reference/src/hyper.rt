@@ -1,6 +1,7 @@
 ghost use Rattle.std.specs.Prelude.{◌≡◌, ◌<◌, length, IfOk};
 ghost use Rattle.reference.specs.Closed.{ClosedState, Closed};
-ghost use Rattle.reference.specs.Redirection.{Redirects, Fits};
+ghost use Rattle.reference.specs.Fits.{Fits};
+ghost use Rattle.reference.specs.Redirection.{Redirects};
 
 use crate::kernel::{accepting, co_kernel, kernel};
 use crate::least::least_table;

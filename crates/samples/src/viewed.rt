@@ -44,6 +44,31 @@ fn a_hyper_table_is_read_as_a_view(rt: HostRuntime) -> Result<(), Fail> {
     Ok(())
 }
 
+// The fork in which state 2 merges into state 1. Its hyper table has lost word 1, so that state 0 has push 2 there: the least table of the
+// hyper table has the same states and arcs, and other weights.
+#[test]
+fn a_merged_table_is_compiled_again(rt: HostRuntime) -> Result<(), Fail> {
+    let weights = fork_weights(10);
+    let sheet = Sheet::new(&FORK_TARGETS, &weights, &FORK_MARKS, 4, 2)?;
+    let made = compile_exactly(&rt, &sheet)?;
+    let hyper = TableView::new(
+        &made.hyper_targets,
+        &made.hyper_weights,
+        &made.hyper_marks,
+        made.report.hyper,
+        2,
+    );
+    assert_eq!(rt; hyper.states(), 3);
+    assert_eq!(rt; weigh(&hyper, &[0, 1])?.ok_or("none")?.code(), 28);
+    assert!(rt; weigh(&hyper, &[1])?.is_none());
+    let again = compile_exactly(&rt, &hyper)?;
+    assert_eq!(rt; again.report, report(3, 3, 1));
+    assert!(rt; again.targets.starts_with(&[0, 1, 1, 2, 2, 2, 2]));
+    assert!(rt; codes(&rt, &again.weights)?.starts_with(&[14, 1, 131, 1, 2, 3, 1]));
+    assert!(rt; again.marks.starts_with(&[4, 4, 7]));
+    Ok(())
+}
+
 // Whatever a view holds, it has a state and a letter at least, and leads to states of its own.
 #[test]
 fn a_view_over_nothing(rt: HostRuntime) -> Result<(), Fail> {

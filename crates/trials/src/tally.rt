@@ -73,13 +73,12 @@ impl Tally {
     }
 
     pub(crate) fn get(&self, count: Count) -> u64 {
-        self.counts.get(count as usize).copied().unwrap_or(0)
+        self.counts[count as usize]
     }
 
     pub(crate) fn add(&mut self, count: Count, by: usize) {
-        if let Some(counted) = self.counts.get_mut(count as usize) {
-            *counted = counted.saturating_add(by as u64);
-        }
+        let counted = &mut self.counts[count as usize];
+        *counted = counted.saturating_add(by as u64);
     }
 
     // One more, if so.
