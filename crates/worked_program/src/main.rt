@@ -5,15 +5,15 @@
 //
 // For each draft come the counts, the least table and the hyper table. `start Q C` and `arc Q A R C` are as in a listing: the state that
 // the table starts in, and an arc from state Q by letter A to state R, each with the code of its weight.
+mod calls;
 mod compiled;
-mod drafts;
 mod file;
 mod list;
 mod memories;
 mod print;
 
+use calls::{fork, one_state, round, spin};
 use compiled::Compiled;
-use drafts::{fork, one_state, round, spin};
 use file::file_of;
 use list::{list_of, taken};
 use listings::hyper_listing;
