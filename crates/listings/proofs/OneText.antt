@@ -1,5 +1,5 @@
 -- A file has one text. Assumes nothing.
-use Rattle.std.proofs.Common.{◌≡◌, ℕ, zero, suc, ◌+◌, ◌-◌, ◌*◌, ◌/◌, ◌%◌, ◌<◌, Bool, true, false, cond, ltb, List, [], ◌∷◌, ◌++◌, length, replicate, Ok, Err, Result, slice_get, sym, refl, ap, ◌∙◌, subst, zero-add, arith}
+use Rattle.std.proofs.Common.{◌≡◌, ℕ, zero, suc, ◌*◌, ◌/◌, ◌%◌, ◌<◌, Bool, true, false, ltb, List, [], ◌∷◌, ◌++◌, length, replicate, Ok, Err, Result, slice_get, sym, refl, ap, ◌∙◌, subst, zero-add, arith}
 use Rattle.std.specs.List.{range_with_len, flat_map}
 use Rattle.std.proofs.lemmas.List.{flat_map_more, length-replicate}
 use Rattle.std.proofs.lemmas.Nat.{div_below, mod_below}
@@ -22,8 +22,9 @@ use Rattle.drafts.specs.declared.kind.FileKind.TheVariants.{Plain, Check, Wheel,
 use Rattle.drafts.proofs.Sketching.{Draws}
 use Rattle.theory.specs.Hyper.{Hyper, count_below}
 use Rattle.theory.specs.Runs.{Closed}
-use Rattle.theory.specs.Theorems.{SameTable}
+use Rattle.theory.specs.Theorems.{SameTable, agreement_length}
 use Rattle.theory.proofs.Determined.{least_is_determined}
+use Rattle.theory.proofs.Kept.{counts_alike}
 use Rattle.theory.proofs.Minimal.{least_closed}
 use Rattle.theory.proofs.Search.{kernel_not_preamble}
 use Rattle.theory.proofs.Single.{hyper_is_determined}
@@ -48,11 +49,6 @@ lines_alike f g (suc n) h =
     ∙ ap (λ xs. flat_map g (range_with_len 0 n) ++ xs) (h n (omega arith))
     ∙ flat_map_more g [] (range_with_len 0 n) n
     ∙ ap (flat_map g) (sym more)
-
-count_alike : (p o : ℕ → Bool) (n : ℕ) → ((q : ℕ) → q < n → p q ≡ o q) → count_below p n ≡ count_below o n
-count_alike p o zero h = refl
-count_alike p o (suc n) h =
-    ap (λ m. m + cond (p n) 1 0) (count_alike p o n (λ q l. h q (omega arith))) ∙ ap (λ b. count_below o n + cond b 1 0) (h n (omega arith))
 
 -- flags that tell the same
 tells_alike :
@@ -122,12 +118,12 @@ module _ {W : Type 0} (K : Kind W) (k : Codes W) where
       (λ a b. kernel_not_preamble u.least q ((least.kernel q l).1 a) b)
       (u.is_kernel q l) (v.is_kernel q (subst (λ n. q < n) least.states l)) in
       let count : count_below u.kernel u.least.states ≡ count_below v.kernel v.least.states =
-      count_alike u.kernel v.kernel u.least.states kernel ∙ ap (count_below v.kernel) least.states in
+      counts_alike u.kernel v.kernel u.least.states kernel ∙ ap (count_below v.kernel) least.states in
       u.is_text
-      ∙ listed_alike u.hyper v.hyper hyper some u.least.states u.hyper.states (count_below u.kernel u.least.states) (2 * u.least.states - 2)
-      ∙ ap (λ n. listing_text K k v.hyper u.least.states u.hyper.states n (2 * u.least.states - 2)) count
-      ∙ ap (λ n. listing_text K k v.hyper u.least.states n (count_below v.kernel v.least.states) (2 * u.least.states - 2)) hyper.states
-      ∙ ap (λ n. listing_text K k v.hyper n v.hyper.states (count_below v.kernel v.least.states) (2 * n - 2)) least.states
+      ∙ listed_alike u.hyper v.hyper hyper some u.least.states u.hyper.states (count_below u.kernel u.least.states) (agreement_length u.least.states)
+      ∙ ap (λ n. listing_text K k v.hyper u.least.states u.hyper.states n (agreement_length u.least.states)) count
+      ∙ ap (λ n. listing_text K k v.hyper u.least.states n (count_below v.kernel v.least.states) (agreement_length u.least.states)) hyper.states
+      ∙ ap (λ n. listing_text K k v.hyper n v.hyper.states (count_below v.kernel v.least.states) (agreement_length n)) least.states
       ∙ sym v.is_text
 
   -- the table of a file's sketch has the sizes of a table, as the sheet of a book has that is in step with it

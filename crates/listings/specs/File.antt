@@ -1,5 +1,5 @@
 -- The text that a draft file is listed as. Assumes nothing.
-use Rattle.std.specs.Prelude.{◌≡◌, ℕ, ◌-◌, ◌*◌, ◌<◌, Bool, List, ◌++◌, length, codes, Ok, Err, Result, nat_lt, slice_get}
+use Rattle.std.specs.Prelude.{◌≡◌, ℕ, ◌<◌, Bool, List, ◌++◌, length, codes, Ok, Err, Result, nat_lt, slice_get}
 use Rattle.weights.specs.Check.{check_kind}
 use Rattle.weights.specs.Codes.{Codes, plain_codes, check_codes, wheel_codes, beam_wheel_codes}
 use Rattle.weights.specs.Group.{Kind}
@@ -15,6 +15,7 @@ use Rattle.drafts.specs.declared.kind.FileKind.TheVariants.{Plain, Check, Wheel,
 use Rattle.theory.specs.Hyper.{Hyper, count_below}
 use Rattle.theory.specs.Kernel.{Kernel, Preamble}
 use Rattle.theory.specs.Least.{Least}
+use Rattle.theory.specs.Theorems.{agreement_length}
 use Rattle.minimize.specs.Compile.{Tells}
 use Rattle.listings.specs.Listing.{field, line, listing_text}
 
@@ -39,7 +40,7 @@ module _ {W : Type 0} (K : Kind W) (k : Codes W) where
     -- which states of the least table are kernel
     pub kernel : ℕ → Bool
     pub is_kernel : (q : ℕ) → q < least.states → Tells (kernel q) (Kernel least q) (Preamble least q)
-    pub is_text : text ≡ listing_text K k hyper least.states hyper.states (count_below kernel least.states) (2 * least.states - 2)
+    pub is_text : text ≡ listing_text K k hyper least.states hyper.states (count_below kernel least.states) (agreement_length least.states)
 
   -- the text of a sketch or a fault
   abbrev pub SketchText : Result (Sketch W) Blame → List ℕ → Type 0

@@ -2,7 +2,6 @@
 -- almost-equivalent is gathered. Assumes nothing.
 use Rattle.std.proofs.Common.{◌≡◌, ◌≢◌, ℕ, zero, suc, ◌+◌, ◌<◌, ◌≤◌, Bool, true, false, cond, List, [], ◌∷◌, length, None, inl, inr, sym, refl, ap, ◌∙◌, subst, arith}
 use Rattle.std.proofs.lemmas.Bool.{cases_Bool, cases_eq, eqb-true, eq-eqb, both_ways, cond-true, false_from_ne_true}
-use Rattle.weights.specs.Codes.{within}
 use Rattle.weights.specs.Group.{Group}
 use Rattle.weights.proofs.Groups.{one_right}
 use Rattle.tables.specs.Table.{Table, Word, scaled, weight_from}
@@ -12,7 +11,7 @@ use Rattle.theory.specs.Series.{Multiple, Equivalent, AlmostBy, AlmostEquivalent
 use Rattle.theory.specs.Kernel.{CoKernel, CoPreamble}
 use Rattle.theory.specs.Hyper.{count_below}
 use Rattle.theory.proofs.Lengths.{all_shorter, some_longer, infinitely_many}
-use Rattle.theory.proofs.Basics.{inv_cancels, cancels_inv, walked, weight_walked, multiple_later, multiple_after, multiple_accepts, almost_multiple, multiple_from, almost_by_itself, almost_by_sym, almost_by_trans, almost_by_next, almost_sym}
+use Rattle.theory.proofs.Basics.{inv_cancels, cancels_inv, walked, not_accepted, multiple_later, multiple_after, multiple_accepts, almost_multiple, multiple_from, almost_by_itself, almost_by_sym, almost_by_trans, almost_by_next, almost_sym}
 use Rattle.theory.proofs.Search.{co_kernel_not_preamble}
 use Rattle.theory.proofs.Single.{one_almost}
 use Rattle.minimize.proofs.Keeping.{kept_fewer, kept_stands}
@@ -56,9 +55,6 @@ module _ (G : Group) where
       ∙ ap (λ z. G.mul k (G.mul z y)) (one_right G v)
 
 module _ (G : Group) (t : Table G.Mean) where
-  not_accepted : (q : ℕ) (w : List ℕ) → accepts t q w ≡ false → weight_from G t q w ≡ None
-  not_accepted q w e = weight_walked G t q w ∙ ap (λ b. within b (walked G t q w)) e
-
   co_kernel_alike : (q p : ℕ) → AlmostEquivalent G t q p → CoKernel t q → CoKernel t p
   co_kernel_alike q p e c =
       let x = multiple_from e.by in

@@ -1,17 +1,16 @@
 -- Representatives and factors. Assumes nothing.
-use Rattle.std.proofs.Common.{◌≡◌, ℕ, ◌+◌, ◌<◌, ◌≤◌, Bool, true, false, cond, get_or, set, List, length, None, inl, inr, sym, refl, ap, ◌∙◌, subst, arith}
+use Rattle.std.proofs.Common.{◌≡◌, ℕ, ◌+◌, ◌<◌, ◌≤◌, Bool, true, false, cond, get_or, set, List, length, inl, inr, sym, refl, ap, ◌∙◌, subst, arith}
 use Rattle.std.proofs.lemmas.Bool.{cases_Bool, cond_both, false_from_ne_true}
 use Rattle.std.proofs.lemmas.Grind.{common_steps}
-use Rattle.weights.specs.Codes.{within}
 use Rattle.weights.specs.Group.{Group, Kind}
-use Rattle.tables.specs.Table.{Table, scaled, weight_from}
+use Rattle.tables.specs.Table.{Table, scaled}
 use Rattle.tables.specs.Sheet.{mean_at}
 use Rattle.theory.specs.Runs.{accepts}
 use Rattle.theory.specs.Series.{AlmostBy, AlmostEquivalent}
 use Rattle.theory.specs.Kernel.{Kernel, Preamble, CoKernel, CoPreamble}
 use Rattle.theory.specs.Hyper.{Representative, Factor}
 use Rattle.theory.proofs.Lengths.{all_shorter}
-use Rattle.theory.proofs.Basics.{multiple_accepts, almost_multiple, multiple_from, almost_by_sym, almost_by_trans, walked, weight_walked}
+use Rattle.theory.proofs.Basics.{multiple_accepts, almost_multiple, multiple_from, almost_by_sym, almost_by_trans, not_accepted}
 use Rattle.theory.proofs.Search.{co_kernel_not_preamble}
 use Rattle.minimize.specs.Compile.{Tells}
 use Rattle.minimize.specs.Steps.{Marked, AlmostClasses, has_mark}
@@ -35,9 +34,6 @@ module _ (G : Group) (t : Table G.Mean) (k o : ℕ → Bool) (label : ℕ → �
       let x = subst (λ p. AlmostBy G t (factor r) r p) e (c.almost r j) in
       almost_by_trans G t (factor q) (G.inv (factor r)) q (label q) r d (almost_by_sym G t (factor r) r (label q) x)
 
-  not_accepted : (q : ℕ) (w : List ℕ) → accepts t q w ≡ false → weight_from G t q w ≡ None
-  not_accepted q w e = weight_walked G t q w ∙ ap (λ b. within b (walked G t q w)) e
-
   -- where finitely many words are accepted from q, any factor serves
   any_factor : (q r : ℕ) (x y : G.Mean) → CoPreamble t q → AlmostBy G t x q r → AlmostBy G t y q r
   any_factor q r x y c a =
@@ -50,7 +46,7 @@ module _ (G : Group) (t : Table G.Mean) (k o : ℕ → Bool) (label : ℕ → �
             let no : accepts t q w ≡ false =
             false_from_ne_true (accepts t q w) (λ e. omega (arith, short.1 w h e)) in
             let both : accepts t q w ≡ accepts t r w = multiple_accepts G t t q r m.multiple w h (omega arith) in
-            not_accepted q w no ∙ sym (ap (scaled G y) (not_accepted r w (sym both ∙ no)));
+            not_accepted G t q w no ∙ sym (ap (scaled G y) (not_accepted G t r w (sym both ∙ no)));
       })
 
   pub factor_chosen :

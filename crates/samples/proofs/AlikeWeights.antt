@@ -1,7 +1,7 @@
 -- What two sources that weigh every word alike answer, where both answer a weight. Assumes nothing.
 use Rattle.std.proofs.Common.{◌≡◌, ℕ, suc, List, [], ◌∷◌, Some, None, Ok, Option, Result, sym, ap, ◌∙◌, rules}
-use Rattle.weights.specs.Group.{Kind}
-use Rattle.weights.specs.Refusal.{judged, outcome_as, indexed}
+use Rattle.weights.specs.Group.{Group, Kind}
+use Rattle.weights.specs.Refusal.{Told, judged, outcome_as, indexed}
 use Rattle.weights.specs.declared.refusal.Refusal.{Refusal}
 use Rattle.tables.specs.Table.{Table, Word, WeighAlike, meant, no_letter_from, weight_of, weighing}
 use Rattle.tables.proofs.Reading.{first_letter}
@@ -18,20 +18,18 @@ weighed :
 weighed None z m e = search rules
 weighed (Some i) z m e = search rules
 
-module _ {W : Type 0} (K : Kind W) (t u : Table K.group.Mean) (w : List ℕ) where
-  answered :
-      (v : Table K.group.Mean) (p : Result (Option W) Refusal) (x : W) → outcome_as (meant K) p ≡ weighing K.group v w →
-      p ≡ Ok (Some x) → (no_letter_from v.letters 0 w ≡ None) × (weight_of K.group v w ≡ Some (K.mean x))
-  answered v p x e is =
-      weighed (no_letter_from v.letters 0 w) (weight_of K.group v w) (K.mean x) (sym e ∙ ap (outcome_as (meant K)) is)
+-- what a call answers is what weighing comes to
+pub answered :
+    {W : Type 0} (K : Kind W) (p : Result (Option W) Refusal) (x : W) (said : Result (Option K.group.Mean) Told) →
+    outcome_as (meant K) p ≡ said → p ≡ Ok (Some x) → said ≡ Ok (Some (K.mean x))
+answered K p x said e is = sym e ∙ ap (outcome_as (meant K)) is
 
-  pub alike_means :
-      (p q : Result (Option W) Refusal) (x y : W) → outcome_as (meant K) p ≡ weighing K.group t w →
-      outcome_as (meant K) q ≡ weighing K.group u w → p ≡ Ok (Some x) → q ≡ Ok (Some y) → WeighAlike K.group t u →
-      K.mean x ≡ K.mean y
-  alike_means p q x y e f is_x is_y alike =
-      let left = answered t p x e is_x in
-      let right = answered u q y f is_y in
-      let same : Some (K.mean x) ≡ Some (K.mean y) =
-      sym left.1 ∙ alike.words w (all_letters t.letters 0 w left.0) ∙ right.1 in
-      search rules
+-- two tables that weigh every word alike answer one weight
+pub one_weight :
+    (G : Group) (t u : Table G.Mean) (w : List ℕ) (x y : G.Mean) → weighing G t w ≡ Ok (Some x) → weighing G u w ≡ Ok (Some y) →
+    WeighAlike G t u → x ≡ y
+one_weight G t u w x y e f alike =
+    let left = weighed (no_letter_from t.letters 0 w) (weight_of G t w) x e in
+    let right = weighed (no_letter_from u.letters 0 w) (weight_of G u w) y f in
+    let same : Some x ≡ Some y = sym left.1 ∙ alike.words w (all_letters t.letters 0 w left.0) ∙ right.1 in
+    search rules

@@ -2,22 +2,15 @@
 use Rattle.std.proofs.Common.{◌≡◌, ℕ, Ok, sym, ap, ◌∙◌, subst}
 use Rattle.weights.specs.Group.{Group, Kind}
 use Rattle.tables.specs.Book.{Contents}
-use Rattle.tables.specs.Table.{Table, Word, WeighAlike}
+use Rattle.tables.specs.Table.{Table, WeighAlike}
 use Rattle.theory.proofs.Basics.{lawful_closed}
+use Rattle.theory.proofs.Determined.{alike_twice}
 use Rattle.theory.proofs.Equal.{same_weighs_alike}
 use Rattle.minimize.specs.Compile.{least_in, Outcome}
 use Rattle.minimize.specs.Memories.{Memories}
 use Rattle.minimize.specs.Rows.{rows_table}
 use Rattle.minimize.specs.View.{view_table, view_lawful}
 use Rattle.minimize.specs.declared.compiler.Report.{Report}
-
--- a third table weighs every word alike too
-alike_twice : (G : Group) (t u v : Table G.Mean) → WeighAlike G t u → WeighAlike G u v → WeighAlike G t v
-alike_twice G t u v x y =
-    record {
-      letters = x.letters ∙ y.letters;
-      words = λ w h. x.words w h ∙ y.words w (subst (λ s. Word s w) x.letters h);
-    }
 
 pub least_source_alike :
     {W : Type 0} (K : Kind W) (t : Table K.group.Mean) (before after : Memories W) (r : Report) (s : ℕ) (c : Contents W) →

@@ -1,6 +1,6 @@
 // What sources that weigh every word alike answer, where each meaning is stored in one way.
-ghost use Rattle.std.specs.Prelude.{◌≡◌, IfSome};
-ghost use Rattle.tables.specs.Table.{WeighAlike};
+ghost use Rattle.std.specs.Prelude.{◌≡◌, Ok, Some, IfSome};
+ghost use Rattle.tables.specs.Table.{WeighAlike, weighing};
 
 use tables::{Source, weigh};
 use weights::Injective;
@@ -11,7 +11,9 @@ fn weigh_both<W: Injective, S: Source<W>, T: Source<W>>(
     right: &T,
     word: &[u8],
 ) -> Option<(W, W)>
-    ensures { WeighAlike W.kind.group (S.table left.now W.kind) (T.table right.now W.kind) → IfSome result (λ both. both.0 ≡ both.1) }
+    ensures left { IfSome result (λ both. weighing W.kind.group (S.table left.now W.kind) word.now ≡ Ok (Some (W.kind.mean both.0))) }
+    ensures right { IfSome result (λ both. weighing W.kind.group (T.table right.now W.kind) word.now ≡ Ok (Some (W.kind.mean both.1))) }
+    ensures equal { WeighAlike W.kind.group (S.table left.now W.kind) (T.table right.now W.kind) → IfSome result (λ both. both.0 ≡ both.1) }
 {
     let of_left = weigh(left, word).ok()??;
     let of_right = weigh(right, word).ok()??;

@@ -1,3 +1,3 @@
-mod RingWords
+pub mod RingWords
 mod FoldWords
 mod BothWords

@@ -9,7 +9,7 @@ use Rattle.sources.specs.Ring.{ring_verdict, ring_states, next, next_inside, rin
 use Rattle.sources.specs.declared.ring.Ring.{Ring}
 
 -- the state after q, and then l letters more, is where q and l + 1 letters lead
-next_round : (n q l : ℕ) → q < n → (next n q + l) % n ≡ (q + suc l) % n
+pub next_round : (n q l : ℕ) → q < n → (next n q + l) % n ≡ (q + suc l) % n
 next_round n q l inside = grind (arith, nat_tests, add-mod_left)
 
 scaled_within : (G : Group) (k x : G.Mean) (b : Bool) → scaled G k (within b x) ≡ within b (G.mul k x)

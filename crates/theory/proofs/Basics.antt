@@ -118,6 +118,10 @@ module _ (G : Group) (t : Table G.Mean) where
       scaled_within k true x = refl
       scaled_within k false x = refl
 
+  -- a word that is not accepted has no weight
+  pub not_accepted : (q : ℕ) (w : List ℕ) → accepts t q w ≡ false → weight_from G t q w ≡ None
+  not_accepted q w e = weight_walked q w ∙ ap (λ b. within b (walked q w)) e
+
   -- an accepted word has the weight along it
   pub accepted_weighs : (q : ℕ) (w : List ℕ) → accepts t q w ≡ true → weight_from G t q w ≡ Some (walked q w)
   accepted_weighs q w a = weight_walked q w ∙ within_true (accepts t q w) (walked q w) a

@@ -14,7 +14,7 @@ pub mod Numbers
 pub mod Same
 
 -- a third table weighs every word alike too
-alike_twice : (G : Group) (t u v : Table G.Mean) → WeighAlike G t u → WeighAlike G u v → WeighAlike G t v
+pub alike_twice : (G : Group) (t u v : Table G.Mean) → WeighAlike G t u → WeighAlike G u v → WeighAlike G t v
 alike_twice G t u v x y =
     record {
       letters = x.letters ∙ y.letters;

@@ -3,7 +3,7 @@
 use Rattle.std.proofs.Common.{◌≡◌, ℕ, zero, suc, ◌+◌, ◌-◌, ◌*◌, ◌%◌, ◌<◌, ◌≤◌, true, ◌||◌, eqb, List, [], ◌∷◌, length, get_or, replicate, Some, Option, inl, inr, sym, refl, ap, ◌∙◌, subst, mod-eq_of_lt, lit<, arith, rules}
 use Rattle.std.specs.Bool.{beq}
 use Rattle.std.specs.Cmp.{booleans_Decides}
-use Rattle.std.proofs.Math.Nat.{add-mod_left, mul-le-mul_left}
+use Rattle.std.proofs.Math.Nat.{mul-le-mul_left}
 use Rattle.std.proofs.lemmas.Bool.{eqb-true, or_cases, cases_lt}
 use Rattle.std.proofs.lemmas.Bool.Decides.{nat_tests}
 use Rattle.std.proofs.lemmas.List.{length-replicate}
@@ -28,11 +28,8 @@ use Rattle.worked.specs.Minimized.{MinimizedTo, unmerged}
 use Rattle.worked.specs.Drafts.{wheel, ring_of, ring_minimized, both_rings, both_minimized}
 use Rattle.worked.proofs.Answering.{all_kernel, all_co_kernel, minimized}
 use Rattle.worked.proofs.Own.{own_least, own_hyper}
+use Rattle.sources.proofs.RingWords.{next_round}
 use Rattle.worked.proofs.Quotient.{Quotient, QuotientTests, tested_quotient, quotient_least, coded}
-
--- The state after q, and then l letters more, is where q and l + 1 letters lead.
-next_round : (n q l : ℕ) → q < n → (next n q + l) % n ≡ (q + suc l) % n
-next_round n q l inside = grind (arith, nat_tests, add-mod_left)
 
 -- how many letters lead from state q of n round m times, on to state 0, and on to state p
 abbrev far : ℕ → ℕ → ℕ → ℕ → ℕ
