@@ -102,7 +102,7 @@ promised K t m r lawful made =
       fewest =
           λ b closed alike.
           hyper_is_smallest G t l h b s f lawful made.least made.hyper closed alike;
-      lengths = λ test. lengths_tell (λ w. test w ≡ true);
+      lengths_tell = λ test. lengths_tell (λ w. test w ≡ true);
       canonical =
           λ u n p lawful' letters made'.
           let k = rows_table K (least_in u.letters n p) in

@@ -92,14 +92,14 @@ module _ {W : Type 0} (K : Kind W) where
     -- states as the hyper table
     pub fewest : (b : Table K.group.Mean) → Closed b → AlmostWeighAlike K.group t b → r.hyper ≤ b.states
     -- whether finitely many words pass a test, infinitely many, or all but finitely many, is told by their lengths
-    pub lengths : (test : List ℕ → Bool) → LengthsTell (λ w. test w ≡ true)
+    pub lengths_tell : (test : List ℕ → Bool) → LengthsTell (λ w. test w ≡ true)
     -- Any other source of the kind and the letters, wherever it was compiled: the least tables that are left are equal in count,
     -- targets, weights and marks exactly where both sources weigh every word alike.
     pub canonical :
         (u : Table K.group.Mean) (n : Memories W) (p : Report) → Lawful u → u.letters ≡ t.letters → Compiled u n p →
         SameLeast K t.letters m r n p ↔ WeighAlike K.group t u
-    -- Both tables can be read where they lie: a view over one means just that table, and a sheet, which has one state more, weighs
-    -- every word as it does, of a table that has so few states that a sheet can be made.
+    -- Both tables can be read where they lie. A view over one means just that table. A sheet over one has the off state besides, and
+    -- weighs every word alike; it can be made where the table has at most 4095 states.
     pub least_viewed : SameTable K.group (view_table K (least_in t.letters m r)) (rows_table K (least_in t.letters m r))
     pub hyper_viewed : SameTable K.group (view_table K (hyper_in t.letters m r)) (rows_table K (hyper_in t.letters m r))
     pub least_sheet : r.least ≤ 4095 → WeighAlike K.group (sheet_table K (least_in t.letters m r)) (rows_table K (least_in t.letters m r))

@@ -5,7 +5,7 @@ ghost use Rattle.minimize.specs.Slices.{laid_rows};
 
 use weights::Weight;
 
-// In place of a number, a distance, a label or a leader: none.
+// In place of a target, a number, a distance, a label or a leader: none.
 pub(crate) const NONE: u16 = 65535;
 
 // A table that lies in three slices in the layout of a book, without an off state: all of its arcs lead to states of its own.

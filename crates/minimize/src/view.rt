@@ -21,7 +21,8 @@ pub struct TableView<'a, W> {
 
 impl<'a, W: Weight> TableView<'a, W> {
     // The view of that many states and letters, which are read as 1 to 4096 and 1 to 64. A target that is no state is read as the last
-    // state, and so is one whose place does not exist; a weight whose place does not exist is one.
+    // state, and so is one whose place does not exist; a weight whose place does not exist is one. Only the lowest bit of a mark counts,
+    // and a state whose mark does not exist is not final.
     pub fn new(
         targets: &'a [u16],
         weights: &'a [W],

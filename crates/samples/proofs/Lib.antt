@@ -1,3 +1,3 @@
 mod AlikeWeights
 mod Rereading
-mod LeastSource
+mod CompiledTables

@@ -1,5 +1,7 @@
 // Compiling sources of each sort, and what the tables, lists and counts come to.
-use minimize::{Report, StateMemory, TableMemory, WorkMemory, compile, draw_and_compile};
+use minimize::{
+    Report, StateMemory, TableMemory, TableView, WorkMemory, compile, draw_and_compile,
+};
 use sources::{Both, Fold, Ring};
 use std::test::Fail;
 use tables::{Book, Call, Made, Sheet, Source, weigh};
@@ -17,6 +19,19 @@ pub(crate) struct Left<W> {
     pub(crate) hyper_marks: Vec<u8>,
     pub(crate) representatives: Vec<u16>,
     pub(crate) factors: Vec<W>,
+}
+
+impl<W: Weight> Left<W> {
+    // The hyper table, of so many letters, read where it lies.
+    pub(crate) fn hyper_table(&self, letters: u8) -> TableView<'_, W> {
+        TableView::new(
+            &self.hyper_targets,
+            &self.hyper_weights,
+            &self.hyper_marks,
+            self.report.hyper,
+            letters,
+        )
+    }
 }
 
 // Compiles a source in memories of just the size that is needed.
@@ -89,8 +104,8 @@ pub(crate) fn codes<W: Coded>(rt: &HostRuntime, elements: &[W]) -> Result<Vec<u1
     Ok(codes)
 }
 
-// The memories of four states over two letters: the fork, whose states 1 and 2 weigh all words but the empty one alike, with
-// factor 5, where the last arc of state 2 weighs `last`.
+// The memories of four states over two letters: the fork. Where the last arc of state 2 weighs `last` = 10, state 2 weighs each word but
+// the empty one as 5/2 times what state 1 does; where it weighs 11, no factor does that.
 pub(crate) const FORK_TARGETS: [u16; 9] = [0, 1, 2, 3, 3, 3, 3, 3, 3];
 
 pub(crate) const FORK_MARKS: [u8; 4] = [0, 0, 1, 1];

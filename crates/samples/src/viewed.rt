@@ -12,13 +12,7 @@ fn a_hyper_table_is_read_as_a_view(rt: HostRuntime) -> Result<(), Fail> {
     let weights = fork_weights(11);
     let sheet = Sheet::new(&FORK_TARGETS, &weights, &FORK_MARKS, 4, 2)?;
     let made = compile_exactly(&rt, &sheet)?;
-    let hyper = TableView::new(
-        &made.hyper_targets,
-        &made.hyper_weights,
-        &made.hyper_marks,
-        made.report.hyper,
-        2,
-    );
+    let hyper = made.hyper_table(2);
     assert_eq!(rt; hyper.states(), 4);
     assert_eq!(rt; weigh(&hyper, &[0, 1])?.ok_or("none")?.code(), 28);
     assert!(rt; weigh(&hyper, &[0])?.is_none());
@@ -45,19 +39,13 @@ fn a_hyper_table_is_read_as_a_view(rt: HostRuntime) -> Result<(), Fail> {
 }
 
 // The fork in which state 2 merges into state 1. Its hyper table has lost word 1, so that state 0 has push 2 there: the least table of the
-// hyper table has the same states and arcs, and other weights.
+// hyper table has the same states and targets, and other weights.
 #[test]
 fn a_merged_table_is_compiled_again(rt: HostRuntime) -> Result<(), Fail> {
     let weights = fork_weights(10);
     let sheet = Sheet::new(&FORK_TARGETS, &weights, &FORK_MARKS, 4, 2)?;
     let made = compile_exactly(&rt, &sheet)?;
-    let hyper = TableView::new(
-        &made.hyper_targets,
-        &made.hyper_weights,
-        &made.hyper_marks,
-        made.report.hyper,
-        2,
-    );
+    let hyper = made.hyper_table(2);
     assert_eq!(rt; hyper.states(), 3);
     assert_eq!(rt; weigh(&hyper, &[0, 1])?.ok_or("none")?.code(), 28);
     assert!(rt; weigh(&hyper, &[1])?.is_none());
@@ -66,6 +54,24 @@ fn a_merged_table_is_compiled_again(rt: HostRuntime) -> Result<(), Fail> {
     assert!(rt; again.targets.starts_with(&[0, 1, 1, 2, 2, 2, 2]));
     assert!(rt; codes(&rt, &again.weights)?.starts_with(&[14, 1, 131, 1, 2, 3, 1]));
     assert!(rt; again.marks.starts_with(&[4, 4, 7]));
+    Ok(())
+}
+
+// The fork with state 0 final too, so that its push stays one without word 1. State 2 merges into state 1, nothing more does, and the hyper
+// table is its own least table.
+#[test]
+fn a_merged_table_is_its_own_least_table(rt: HostRuntime) -> Result<(), Fail> {
+    let weights = fork_weights(10);
+    let sheet = Sheet::new(&FORK_TARGETS, &weights, &[1u8, 0, 1, 1], 4, 2)?;
+    let made = compile_exactly(&rt, &sheet)?;
+    assert_eq!(rt; made.report, report(4, 3, 1));
+    assert!(rt; made.hyper_targets.starts_with(&[0, 1, 1, 2, 2, 2, 2]));
+    assert!(rt; codes(&rt, &made.hyper_weights)?.starts_with(&[7, 2, 5, 1, 2, 3, 1]));
+    let again = compile_exactly(&rt, &made.hyper_table(2))?;
+    assert_eq!(rt; again.report, report(3, 3, 1));
+    assert!(rt; again.targets.starts_with(&[0, 1, 1, 2, 2, 2, 2]));
+    assert!(rt; codes(&rt, &again.weights)?.starts_with(&[7, 2, 5, 1, 2, 3, 1]));
+    assert!(rt; again.marks.starts_with(&[5, 4, 7]));
     Ok(())
 }
 

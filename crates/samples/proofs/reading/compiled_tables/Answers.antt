@@ -2,9 +2,9 @@ use Rattle.std.proofs.Common.{sym, ◌∙◌, subst}
 use Rattle.minimize.specs.Compile.{Outcome}
 use Rattle.minimize.specs.Memories.{memories}
 use Rattle.minimize.specs.View.{viewed}
-use Rattle.samples.proofs.LeastSource.{least_source_alike}
+use Rattle.samples.proofs.CompiledTables.{least_alike, hyper_agrees}
 use Rattle.samples.proofs.Rereading.{ok_some}
-use Rattle.samples.proofs.reading.least_source.Goals as goal
+use Rattle.samples.proofs.reading.compiled_tables.Goals as goal
 
 pub returns : goal.returns
 returns g c =
@@ -19,5 +19,9 @@ returns g c =
     let after =
     memories n.least.0 n.least.1.0 n.least.1.1.0 n.hyper.0 n.hyper.1.0 n.hyper.1.1.0 n.states.0 n.states.1.0 n.work.0 n.work.1.0 in
     let compiled = ok_some c.compile.result r (sym c.ok.ensures.value ∙ c.in_ok-report.was) in
-    least_source_alike K t before after r c.letters.result (viewed c.new.result)
-    (subst (Outcome K t before after) compiled c.compile.ensures) c.letters.ensures c.new.ensures
+    let done = subst (Outcome K t before after) compiled c.compile.ensures in
+    let letters = c.letters-letters in
+    record {
+      least = least_alike K t before after r done letters.result (viewed c.new-least.result) letters.ensures c.new-least.ensures;
+      hyper = hyper_agrees K t before after r done letters.result (viewed c.new-hyper.result) letters.ensures c.new-hyper.ensures;
+    }
