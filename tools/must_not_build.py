@@ -7,7 +7,8 @@ Run at the top. An edit has five lines: the crate, what the compiler must say, a
 file once, and a new one. The edit is made in a copy, where `rt check` must find one error, in that file and with those words. It
 prints nothing where every edit is refused so; else a line for each that is not, and its status is 1.
 
-The copy has the crates' code without specs/ and proofs/: `rt check` reads all code, in seconds, before it proves anything.
+The copy has the crates' code without specs/ and proofs/: of a crate that uses others of the repository, `rt check` reads all code, in
+seconds, before it proves anything.
 """
 import glob
 import os
@@ -56,8 +57,8 @@ def check(folder):
 def fault_of(edit):
     """Returns what is wrong with an edit, or None where it is refused as it tells."""
     lines = [line.partition(": ") for line in text_of(edit).splitlines()]
-    if [key for key, _, _ in lines] != KEYS:
-        return f"is no edit: its lines are not {', '.join(KEYS)}"
+    if [key for key, _, _ in lines] != KEYS or not all(text for _, _, text in lines):
+        return f"is no edit: its lines are not {', '.join(KEYS)}, each with a text"
     crate, words, file, old, new = [text for _, _, text in lines]
     path = f"crates/{crate}/{file}"
     code = text_of(path)
@@ -81,7 +82,7 @@ def main():
     faults = [(edit, fault_of(edit)) for edit in edits]
     told = [f"{edit} {fault}" for edit, fault in faults if fault]
     for line in told:
-        print(line, file=sys.stderr)
+        print(line)
     return 1 if told else 0
 
 

@@ -18,14 +18,11 @@ impl Row {
 
     // Counts a file. A number that no file is to be answered by is an error.
     fn add(&mut self, number: u8) -> Result<()> {
-        let place = NUMBERS.iter().position(|other| *other == number);
-        match self.counts.get_mut(place.unwrap_or(NUMBERS.len())) {
-            Some(count) => {
-                *count = count.saturating_add(1);
-                Ok(())
-            },
-            None => bail!("no file may be refused with {number}"),
-        }
+        let Some(place) = NUMBERS.iter().position(|other| *other == number) else {
+            bail!("no file may be refused with {number}");
+        };
+        self.counts[place] = self.counts[place].saturating_add(1);
+        Ok(())
     }
 
     pub(crate) fn counts(&self) -> [u64; 9] {
@@ -95,10 +92,9 @@ impl Tally {
 
     // Counts a file in the row of a damage. One that `DAMAGES` lacks is an error.
     fn add_damage(&mut self, damage: Damage, number: u8) -> Result<()> {
-        let place = DAMAGES.iter().position(|(other, _)| *other == damage);
-        match self.damages.get_mut(place.unwrap_or(DAMAGES.len())) {
-            Some(row) => row.add(number),
-            None => bail!("a kind of damage has no row"),
-        }
+        let Some(place) = DAMAGES.iter().position(|(other, _)| *other == damage) else {
+            bail!("a kind of damage has no row");
+        };
+        self.damages[place].add(number)
     }
 }

@@ -8,7 +8,7 @@ use Rattle.tables.specs.Book.{Contents, refusal_in, taken}
 use Rattle.tables.specs.Sketch.{Lengths, Sketch, refusal_on, drawn_on}
 use Rattle.tables.specs.declared.call.Call.{Call}
 use Rattle.tables.proofs.InStep.{InStep}
-use Rattle.tables.proofs.Steps.{taken_in_step, same_verdict}
+use Rattle.tables.proofs.Steps.{taken_in_step, same_refusal}
 use Rattle.drafts.specs.Draft.{Reading, carried, made_on}
 use Rattle.drafts.specs.Written.{field_of}
 use Rattle.drafts.proofs.Fields.{decoded, placed}
@@ -62,7 +62,7 @@ module _ {W : Type 0} (k : Codes W) (d : W) where
   read_unrefused n s b (c ∷ cs) o h u =
       let call = decoded k d c in
       let next = o + length (field_of k.number c) in
-      let met : refusal_in b call ≡ None = same_verdict n s b call h ∙ u.0 in
+      let met : refusal_in b call ≡ None = same_refusal n s b call h ∙ u.0 in
       ap (λ v. (carried v o b (made_on (taken b call) (placed k d next cs) None)).fault) met
       ∙ read_unrefused n (drawn_on s call) (taken b call) cs next (taken_in_step n s b call h met) u.1
 

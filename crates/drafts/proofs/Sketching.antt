@@ -7,7 +7,7 @@ use Rattle.tables.specs.Book.{Contents, opened, refusal_in, taken}
 use Rattle.tables.specs.Sheet.{sheet_table}
 use Rattle.tables.specs.Sketch.{Lengths, Sketch, blank, drawn_on, sketch_table}
 use Rattle.tables.proofs.InStep.{InStep}
-use Rattle.tables.proofs.Steps.{opened_in_step, same_table, same_verdict, taken_in_step}
+use Rattle.tables.proofs.Steps.{opened_in_step, same_table, same_refusal, taken_in_step}
 use Rattle.drafts.specs.Draft.{Placed, Reading, carried, listing, made_on, reading}
 use Rattle.drafts.specs.Fault.{Blame}
 use Rattle.drafts.specs.Sketched.{drawn_whole, drawn_after, file_sketch, draft_sketch}
@@ -42,7 +42,7 @@ module _ {W : Type 0} (n : Lengths) where
       let rest = file_sketch n (drawn_on s p.call) ps f in
       let read = made_on (taken c p.call) ps f in
       subst (λ v. Draws n (drawn_after v p.offset rest) (carried (refusal_in c p.call) p.offset c read))
-      (same_verdict n s c p.call h)
+      (same_refusal n s c p.call h)
       (went_on (refusal_in c p.call) p.offset c rest read
       (λ e. made_as_drawn (drawn_on s p.call) (taken c p.call) ps f (taken_in_step n s c p.call h e)))
 

@@ -1,4 +1,4 @@
--- Which states are kept, with one more representative.
+-- Which states are kept, with one more representative. Assumes nothing.
 use Rattle.std.proofs.Common.{◌≡◌, ℕ, ◌<◌, ◌++◌, ◌∷◌, [], ◌⊎◌, inl, inr, List, Bool, length, get_or, arith}
 use Rattle.std.specs.List.{All, Contains}
 use Rattle.std.proofs.lemmas.List.Elements.{All-push, All-weaker}

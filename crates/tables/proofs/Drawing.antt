@@ -16,14 +16,14 @@ use Rattle.tables.specs.declared.call.Call.TheVariants.{Rule, State, Arc, Start}
 use Rattle.tables.specs.declared.made.Made.{Made}
 use Rattle.tables.specs.declared.size.DrawnSize.{DrawnSize}
 use Rattle.tables.proofs.InStep.{InStep}
-use Rattle.tables.proofs.Steps.{opened_in_step, same_verdict, step, all_steps, same_table}
+use Rattle.tables.proofs.Steps.{opened_in_step, same_refusal, step, all_steps, same_table}
 
 -- a book and its sketch answer a list of calls alike
 pub all_answers : {W : Type 0} (n : Lengths) (s : Sketch W) (c : Contents W) (ks : List (Call W)) → InStep n s c →
     answers_by c ks ≡ answers_of n s ks
 all_answers n s c [] h = refl
 all_answers n s c (k ∷ ks) h =
-    ap (λ v. judged v tt ∷ answers_by (left_by c k) ks) (same_verdict n s c k h)
+    ap (λ v. judged v tt ∷ answers_by (left_by c k) ks) (same_refusal n s c k h)
     ∙ ap (λ rs. sketch_answer n s k ∷ rs) (all_answers n (sketched n s k) (left_by c k) ks (step n s c k h))
 
 -- a book in step has the places of all its states, if it has place 0

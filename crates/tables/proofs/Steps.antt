@@ -306,16 +306,16 @@ free_same n s c (Arc q a r w) h =
 free_same n s c (Start q w) h = refl
 
 -- a book and its sketch refuse the same calls
-pub same_verdict : {W : Type 0} (n : Lengths) (s : Sketch W) (c : Contents W) (k : Call W) → InStep n s c
+pub same_refusal : {W : Type 0} (n : Lengths) (s : Sketch W) (c : Contents W) (k : Call W) → InStep n s c
     → refusal_in c k ≡ refusal_on n s k
-same_verdict n s c k h =
+same_refusal n s c k h =
     free_same n s c k h ∙ ap (λ z. verdict z (is_undrawn s) k) (same_size n s c h)
 
 -- a call, taken or refused, keeps the book in step
 pub step : {W : Type 0} (n : Lengths) (s : Sketch W) (c : Contents W) (k : Call W) → InStep n s c
     → InStep n (sketched n s k) (left_by c k)
 step n s c k h =
-    subst (λ v. InStep n (if_taken v (drawn_on s k) s) (left_by c k)) (same_verdict n s c k h)
+    subst (λ v. InStep n (if_taken v (drawn_on s k) s) (left_by c k)) (same_refusal n s c k h)
     (either_in_step n s (drawn_on s k) c (taken c k) (refusal_in c k) h (taken_in_step n s c k h))
 
 -- a list of calls keeps the book in step

@@ -106,7 +106,7 @@ fn answer_number<W>(made: &Made<W>) -> usize {
     }
 }
 
-// The first call of a list that is made though it should not.
+// The first call of a list that is made though it should not be.
 pub(crate) fn unmade_difference<W>(made: &[Made<W>]) -> Option<Difference> {
     for (place, one) in made.iter().enumerate() {
         let library = answer_number(one);

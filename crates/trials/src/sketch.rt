@@ -56,7 +56,7 @@ impl<W: Element> Sketch<W> {
             sketch.refusals.push(refusal)?;
             match refusal {
                 None => sketch.take(*call)?,
-                Some(refusal) => sketch.count(*call, refusal),
+                Some(refusal) => sketch.count_redrawn(*call, refusal),
             }
         }
         Ok(sketch)
@@ -143,7 +143,7 @@ impl<W: Element> Sketch<W> {
     }
 
     // Counts a call that is refused, if it is an arc that is drawn again.
-    fn count(&mut self, call: Call<W>, refusal: Refusal) {
+    fn count_redrawn(&mut self, call: Call<W>, refusal: Refusal) {
         let Call::Arc {
             from,
             letter,

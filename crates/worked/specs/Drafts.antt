@@ -250,7 +250,8 @@ pub record WorkedDrafts : Type 0 where
   pub beam_wheel : Correct beam_wheel_draft
   pub beam_wheel_counts : draft_counts beam_wheel_draft ≡ record { source = 5; least = 4; hyper = 4; kernel = 1; agreement = 6 }
   pub beam_wheel_marks : marks beam_wheel_draft.minimized ≡ 5 ∷ 4 ∷ 4 ∷ 7 ∷ []
-  -- the makings of the ring of 3, and of the rings of 2 and 3 side by side, refuse nothing
+  -- the makings of the rings of 2 and 3, and of both side by side, refuse nothing
+  pub ring_2_made : ring_verdict 2 1 ≡ None
   pub ring_made : ring_verdict 3 1 ≡ None
   pub ring : MinimizedTo wheel_kind.group (ring_of 3) ring_minimized
   pub ring_counts : counts (ring_of 3) ring_minimized ≡ record { source = 3; least = 3; hyper = 3; kernel = 3; agreement = 4 }
@@ -264,8 +265,11 @@ pub record WorkedDrafts : Type 0 where
   pub file_whole : (listing check_codes file).fault ≡ None
   pub file_calls : map (λ p. p.call) (listing check_codes file).calls ≡ merging_draft.calls
   pub listed : FileText file text
-  -- In the merging draft the closed book and the hyper table agree on word 0 1, and not yet on word 1.
+  -- In the merging draft the closed book and the hyper table agree on words 0 1 and 1 0, and not yet on word 1. Numbers below 256 are
+  -- named by the byte that stores them.
   pub word_0_1 : weight_of units_257 (source merging_draft) (0 ∷ 1 ∷ []) ≡ Some (residue_of 28)
   pub word_0_1_hyper : weight_of units_257 merging_draft.minimized.hyper (0 ∷ 1 ∷ []) ≡ Some (residue_of 28)
+  pub word_1_0 : weight_of units_257 (source merging_draft) (1 ∷ 0 ∷ []) ≡ Some (residue_of 35)
+  pub word_1_0_hyper : weight_of units_257 merging_draft.minimized.hyper (1 ∷ 0 ∷ []) ≡ Some (residue_of 35)
   pub word_1 : weight_of units_257 (source merging_draft) (1 ∷ []) ≡ Some (residue_of 7)
   pub word_1_hyper : weight_of units_257 merging_draft.minimized.hyper (1 ∷ []) ≡ None

@@ -7,14 +7,13 @@
 // the table starts in, and an arc from state Q by letter A to state R, each with the code of its weight.
 mod calls;
 mod compiled;
-mod file;
 mod list;
 mod memories;
 mod print;
 
 use calls::{fork, one_state, round, spin};
 use compiled::Compiled;
-use file::file_of;
+use drafts::write_draft;
 use list::{list_of, taken};
 use listings::hyper_listing;
 use memories::Memories;
@@ -64,7 +63,7 @@ fn try_one_state(rt: &HostRuntime) -> anyhow::Result<()> {
 
 fn try_merging(rt: &HostRuntime) -> anyhow::Result<()> {
     let title = "merging, check: state 2 of a fork merges into state 1, with factor 5";
-    try_draft::<Check>(rt, title, &fork(10), &[&[0, 1], &[1]])
+    try_draft::<Check>(rt, title, &fork(10), &[&[0, 1], &[1, 0], &[1]])
 }
 
 fn try_keeping(rt: &HostRuntime) -> anyhow::Result<()> {
@@ -95,15 +94,16 @@ fn try_wheels(rt: &HostRuntime) -> anyhow::Result<()> {
     try_draft::<BeamWheel>(rt, title, &round(), &[])
 }
 
-// Prints the size and the listing of the merging draft's file.
+// Writes what the merging draft draws, without the off state, as a draft file, and prints its size and its listing.
 fn try_file(rt: &HostRuntime) -> anyhow::Result<()> {
-    let file = file_of(Check::kind_number(), &fork(10), rt.alloc())?;
-    println!(rt;
-        "file of the merging draft: {} bytes, listed as",
-        file.len()
-    )?;
+    let mut list = list_of::<Check>(&fork(10), rt.alloc())?;
+    let mut memories = Memories::for_list(&list, rt.alloc())?;
+    let _ = memories.draw(&mut list);
+    let mut file = vec![in rt.alloc(); 0u8; 16_384]?;
+    let size = write_draft(&memories.table(4, 2), &mut file)?;
+    println!(rt; "file of the merging draft: {size} bytes, listed as")?;
     let mut text = vec![in rt.alloc(); 0u8; 32_768]?;
-    let length = hyper_listing(&file, &mut text)?;
+    let length = hyper_listing(&file[..size], &mut text)?;
     rt.stdout().write_all(&text[..length])?;
     println!(rt; "")?;
     Ok(())

@@ -33,7 +33,7 @@ impl<W: Weight> Memories<W> {
         draw(&mut self.targets, &mut self.weights, &mut self.marks, list)
     }
 
-    // The table of so many states and letters that compiling left.
+    // The table of so many states and letters that they hold, without an off state.
     pub(crate) fn table(&self, states: u16, letters: u8) -> TableView<'_, W> {
         TableView::new(&self.targets, &self.weights, &self.marks, states, letters)
     }

@@ -35,8 +35,8 @@ fn print_least<W: Coded>(rt: &HostRuntime, compiled: &Compiled<W>) -> anyhow::Re
     println!(rt; "  least table")?;
     print_start(rt, &table)?;
     let marks = compiled.least.marks.iter().take(usize::from(states));
-    let likenesses = compiled.representatives.iter().zip(&compiled.factors);
-    for (state, (mark, (representative, factor))) in marks.zip(likenesses).enumerate() {
+    let merges = compiled.representatives.iter().zip(&compiled.factors);
+    for (state, (mark, (representative, factor))) in marks.zip(merges).enumerate() {
         let factor = factor.code();
         println!(rt;
             "    state {state} mark {mark}, representative {representative}, factor {factor}"

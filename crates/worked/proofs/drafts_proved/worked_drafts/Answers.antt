@@ -40,6 +40,7 @@ returns c =
       beam_wheel = beam_wheel_correct;
       beam_wheel_counts = refl;
       beam_wheel_marks = refl;
+      ring_2_made = refl;
       ring_made = refl;
       ring = ring_correct;
       ring_counts = refl;
@@ -54,6 +55,8 @@ returns c =
       listed = merging_listed;
       word_0_1 = ap Some (chosen_path _ _ refl);
       word_0_1_hyper = ap Some (chosen_path _ _ refl);
+      word_1_0 = ap Some (chosen_path _ _ refl);
+      word_1_0_hyper = ap Some (chosen_path _ _ refl);
       word_1 = ap Some (chosen_path _ _ refl);
       word_1_hyper = refl;
     }
