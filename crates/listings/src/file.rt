@@ -126,7 +126,8 @@ fn list_draft<W: Coded>(
     )
 }
 
-// Lists a file with memories of elements like the given one: a local array of a type parameter cannot be lent.
+// Lists a file with memories of elements like the given one. A macro, and no generic function: of a local array of a type parameter that is
+// lent it is not proved that its places take less than 2 ^ 63 bytes.
 macro_rules! list_in_arrays {
     ($element:expr, $bytes:expr, $out:expr) => {{
         let mut targets = [0u16; 1017];

@@ -4,7 +4,7 @@ ghost use Rattle.sources.specs.LetterMap.{byte_of, eight, letter_at};
 use std::array;
 use tables::get_or;
 
-// Up to 64 letters, a byte each, eight to a number. Eight fields and no array, so that a fold may stand in a `Result`.
+// Up to 64 letters, a byte each, eight to a number: the letter at place 8 * i + j is byte j of number i, the lowest byte first.
 #[derive(Clone, Copy)]
 pub(crate) struct LetterMap {
     places_0: u64,
