@@ -101,9 +101,10 @@ fn try_file(rt: &HostRuntime) -> anyhow::Result<()> {
     let _ = memories.draw(&mut list);
     let mut file = vec![in rt.alloc(); 0u8; 16_384]?;
     let size = write_draft(&memories.table(4, 2), &mut file)?;
+    file.truncate(size);
     println!(rt; "file of the merging draft: {size} bytes, listed as")?;
     let mut text = vec![in rt.alloc(); 0u8; 32_768]?;
-    let length = hyper_listing(&file[..size], &mut text)?;
+    let length = hyper_listing(&file, &mut text)?;
     rt.stdout().write_all(&text[..length])?;
     println!(rt; "")?;
     Ok(())
